@@ -39,8 +39,8 @@ const COUNTED: [(&str, &str); 2] = [
         "            REPLAYED.fetch_add(1, std::sync::atomic::Ordering::Relaxed);\n            release(assignment, last);\n",
     ),
     (
-        "        Replayed::Open => exhaust(nogoods, assignment),\n",
-        "        Replayed::Open => {
+        "        None => exhaust(nogoods, assignment),\n",
+        "        None => {
             SWEPT.fetch_add(1, std::sync::atomic::Ordering::Relaxed);
             exhaust(nogoods, assignment)
         }
@@ -60,7 +60,7 @@ fn main() {
     let (program, proof) = (std::fs::read(&words[1]).unwrap(), std::fs::read(&words[2]).unwrap());
     let (mut table, mut store) = (vec![0; 16384], vec![0; words[3].parse().unwrap()]);
     let number = match checker::check_texts(&program, &proof, &mut table, &mut store) {
-        checker::Verdict::RefusedProof(refusal) => refusal.number,
+        checker::Verdict::RefusedProof(refusal) => u8::from(refusal.fault),
         _ => 0,
     };
     let count = |n: &std::sync::atomic::AtomicUsize| n.load(std::sync::atomic::Ordering::Relaxed);
@@ -143,19 +143,23 @@ fn copy(from: &Path, to: &Path) -> io::Result<()> {
     Ok(())
 }
 
-/// A contract goes from a line that begins with `requires` or `ensures` to the one with the body's brace alone. Attributes are Rattle's own, and
-/// every type is copied.
+/// A contract goes from a line that begins with `requires` or `ensures` to the one with the body's brace alone, and that of a trait's method without
+/// a body is one line. Attributes are Rattle's own, and every type is copied and compared.
 fn without_contracts(source: &str) -> String {
     let mut kept = String::new();
     let mut inside = false;
     for line in source.lines() {
         let words = line.trim_start();
+        if words.starts_with("ensures ") && words.ends_with("};") {
+            kept.push_str(";\n");
+            continue;
+        }
         inside = (inside && words != "{") || words.starts_with("requires ") || words.starts_with("ensures ");
-        if inside || words.starts_with("ghost use ") || words.starts_with('#') {
+        if inside || words.starts_with("ghost ") || words.starts_with('#') {
             continue;
         }
         if ["enum ", "struct ", "pub enum ", "pub struct "].iter().any(|start| words.starts_with(start)) {
-            kept.push_str("#[derive(Clone, Copy)]\n");
+            kept.push_str("#[derive(Clone, Copy, PartialEq, Eq)]\n");
         }
         kept.push_str(line);
         kept.push('\n');

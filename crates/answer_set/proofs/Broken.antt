@@ -9,6 +9,7 @@ use Prim.Native.Nat.{ℕ, ◌+◌}
 use native.Mathlib.Omega.{arith}
 use lib.IntN.{ℤ}
 use lib.ListN.{length}
+use Rattle.std.specs.Prelude.{Ok}
 use Rattle.words.specs.Limits.{entries}
 use Rattle.words.specs.Lists.{◌∈◌, ascends}
 use Rattle.words.proofs.Lists.{Decides, failed, if-true, is_true, reworded, not-decides, each-cons}
@@ -21,7 +22,7 @@ use Rattle.answer_set.specs.SetTest.{is_broken, SetVerdict, yes, differs, breaks
 use Rattle.answer_set.specs.Claims.{Listed, Ready, Breaks, LowestRule, LowestBroken}
 use Rattle.answer_set.specs.declared.SetAnswer.TheVariants.{Broken}
 use Rattle.answer_set.proofs.Answered.{SomeBroken, broken-decides, equal, equal-back, verdict}
-use Rattle.answer_set.proofs.Service.{NoRefusal, passes, readies, says}
+use Rattle.answer_set.proofs.Service.{passes, readies, says}
 
 module _ (l : List ℕ) where
   breaks-decides : (w : InputRule) → Decides (is_broken (listed l) w) (Breaks (Listed l) w)
@@ -90,9 +91,6 @@ said-broken yes e = absurd (let z : ◌≡◌ {A = ℕ} 0 1 = cc in omega arith)
 said-broken (differs a) e = absurd (let z : ◌≡◌ {A = ℕ} 0 1 = cc in omega arith)
 said-broken (breaks k) e = cc
 
-broken-passes : (k : ℕ) → NoRefusal (Broken k)
-broken-passes k n e = let z : ◌≡◌ {A = ℕ} 0 1 = cc in omega arith
-
 pub lowest-broken : LowestBroken
 unfolding asked
 lowest-broken table rules l before after r t k = (there, back)
@@ -102,11 +100,11 @@ lowest-broken table rules l before after r t k = (there, back)
         (rs : List InputRule) × ReadAs table rules rs × (ascends 0 (atoms rs) l ≡ true) × (length before ≡ entries)
         × ((v : ℕ) → Listed l v ↔ LeastModel (Listed l) (expand rs) v) × LowestRule (Listed l) rs k
 
-    there : r ≡ Broken k → Broke
+    there : r ≡ Ok (Broken k) → Broke
     there e =
-        let p = passes (rules_of table rules) l (length before) (Broken k) (broken-passes k) (rw e at t.answer) in
+        let p = passes (rules_of table rules) l (length before) (Broken k) (rw e at t.answer) in
         let h = breaks-lowest table rules l p.rs (record { readable = p.is; ascending = p.ascending }) k (said-broken _ p.verdict) in
         (p.rs, (table-read table rules p.rs).0 p.is, p.ascending, p.marks, h.0, h.1)
 
-    back : Broke → r ≡ Broken k
+    back : Broke → r ≡ Ok (Broken k)
     back p = t.answer ∙ says table rules l (length before) p.0 p.1 p.2 p.3 (breaks-back table rules l p.0 (readies table rules l (length before) p.0 p.1 p.2) k (p.4, p.5))

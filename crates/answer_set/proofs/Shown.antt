@@ -8,6 +8,7 @@ use mathlib.Core.List.{List, [], ◌∷◌}
 use Prim.Native.Nat.{ℕ, ◌+◌, ◌≤◌, ◌<◌}
 use native.Mathlib.Omega.{arith}
 use lib.IntN.{ℤ}
+use Rattle.std.specs.Prelude.{Ok}
 use Rattle.words.proofs.Lists.{Decides}
 use Rattle.words.proofs.Lists as Lists
 use Rattle.words.proofs.Ascending.{ascends-in}
@@ -18,6 +19,7 @@ use Rattle.answer_set.specs.SetTest.{is_broken, lowest_from, just_one, SetVerdic
 use Rattle.answer_set.specs.Claims.{Listed, Ready, JustOne, LowestShown}
 use Rattle.answer_set.specs.declared.SetAnswer.TheVariants.{Differs}
 use Rattle.answer_set.proofs.Marking.{lowest-some, lowest-is}
+use Rattle.answer_set.proofs.Service.{same_answer}
 use Rattle.answer_set.proofs.Answered.{listed-decides, model, differing, least-small, same-there, same_back}
 
 -- a test of just one of two things
@@ -70,17 +72,17 @@ module _ (table : List ℤ) (rules : ℕ) (l : List ℕ) (rs : List InputRule) (
   small (inl p) = (ascends-in 0 (atoms rs) ready.ascending p.0).1
   small (inr p) = least-small table rules l rs ready p.0
 
-  shown-lowest : (set_answer l (passed rs) ≡ Differs v) ↔ (JustOne (Listed l) (Model) v × ((u : ℕ) → u < v → Listed l u ↔ Model u))
+  shown-lowest : (set_answer l (passed rs) ≡ Ok (Differs v)) ↔ (JustOne (Listed l) (Model) v × ((u : ℕ) → u < v → Listed l u ↔ Model u))
   shown-lowest = (there, back)
     where
-      there : set_answer l (passed rs) ≡ Differs v → JustOne (Listed l) (Model) v × ((u : ℕ) → u < v → Listed l u ↔ Model u)
+      there : set_answer l (passed rs) ≡ Ok (Differs v) → JustOne (Listed l) (Model) v × ((u : ℕ) → u < v → Listed l u ↔ Model u)
       there e =
-          let w = lowest-some g (atoms rs + 1) 0 v (lowest (said-differs _ e)) in
+          let w = lowest-some g (atoms rs + 1) 0 v (lowest (said-differs _ (same_answer e))) in
           ((tells v).to ((Lists.passed _).from w.here), λ u h. same-there table rules l rs ready u (w.below u (omega arith) h))
 
-      back : JustOne (Listed l) (Model) v × ((u : ℕ) → u < v → Listed l u ↔ Model u) → set_answer l (passed rs) ≡ Differs v
+      back : JustOne (Listed l) (Model) v × ((u : ℕ) → u < v → Listed l u ↔ Model u) → set_answer l (passed rs) ≡ Ok (Differs v)
       back p =
-          ap said_of
+          ap (λ w. Ok (said_of w))
           (is-lowest (lowest-is g (atoms rs + 1) 0 v (record {
             low = omega arith;
             high = omega (arith, small p.0);

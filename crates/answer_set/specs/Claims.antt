@@ -3,7 +3,7 @@
 -- proofs/Answered.antt and proofs/Shown.antt prove those on marks and answers, proofs/Service.antt and proofs/Broken.antt those on what
 -- the service answers.
 -- Assumes nothing.
-use Rattle.std.specs.Prelude.{◌≡◌, ◌↔◌, ◌⊎◌, true, List, ◌∷◌, ◌++◌, ℕ, ◌+◌, ◌<◌, ℤ, length, get_or}
+use Rattle.std.specs.Prelude.{◌≡◌, ◌↔◌, ◌⊎◌, true, List, ◌∷◌, ◌++◌, ℕ, ◌+◌, ◌<◌, ℤ, length, get_or, Result, Ok}
 use Rattle.std.proofs.Math.Option.{some}
 use Rattle.words.specs.Lists.{◌∈◌, ascends}
 use Rattle.aspif.specs.Rules.{Rule, InputRule, expand_rule, expand, atoms}
@@ -14,10 +14,12 @@ use Rattle.marks.specs.Marks.{listed}
 use Rattle.answer_set.specs.SetTest.{least, verdict_of, yes, refused, asked, SetTested, passed, set_answer}
 use Rattle.answer_set.specs.declared.SetAnswer.{SetAnswer}
 use Rattle.answer_set.specs.declared.SetAnswer.TheVariants.{Yes, Differs, Broken}
+use Rattle.answer_set.specs.declared.SetFault.{SetFault}
+use Rattle.answer_set.specs.declared.SetFault.TheVariants.{Unreadable}
 
 -- question 41 is answered no exactly where there is no program that the reader reads so
 abbrev pub TableRefused : Type 0
-TableRefused = (table : List ℤ) (rules : ℕ) (l : List ℕ) (marks : ℕ) → (asked table rules l marks ≡ refused 41) ↔ ¬ ReadTable table rules
+TableRefused = (table : List ℤ) (rules : ℕ) (l : List ℕ) (marks : ℕ) → (asked table rules l marks ≡ refused Unreadable) ↔ ¬ ReadTable table rules
 
 -- the set of the numbers listed
 abbrev pub Listed : List ℕ → ℕ → Type 0
@@ -53,14 +55,14 @@ JustOne A B v = (A v × ¬ B v) ⊎ (B v × ¬ A v)
 abbrev pub LowestShown : Type 0
 LowestShown =
     (table : List ℤ) (rules : ℕ) (l : List ℕ) (rs : List InputRule) → Ready table rules l rs → (v : ℕ)
-    → (set_answer l (passed rs) ≡ Differs v)
+    → (set_answer l (passed rs) ≡ Ok (Differs v))
     ↔ (JustOne (Listed l) (LeastModel (Listed l) (expand rs)) v × ((u : ℕ) → u < v → Listed l u ↔ LeastModel (Listed l) (expand rs) u))
 
 -- the service: its contract holds of the answer yes exactly where questions 41 to 43 are passed and the set is an answer set
 abbrev pub ServiceYes : Type 0
 ServiceYes =
-    (table : List ℤ) (rules : ℕ) (l before after : List ℕ) (r : SetAnswer) → SetTested table rules l before after r
-    → (r ≡ Yes)
+    (table : List ℤ) (rules : ℕ) (l before after : List ℕ) (r : Result SetAnswer SetFault) → SetTested table rules l before after r
+    → (r ≡ Ok Yes)
     ↔ ((rs : List InputRule) × ReadAs table rules rs × (ascends 0 (atoms rs) l ≡ true) × (length before ≡ entries) × AnswerSet (Listed l) (expand rs))
 
 -- one of the plain rules of a rule as written is a constraint that "has its positive atoms all in M and its negated atoms all outside"
@@ -81,7 +83,7 @@ pub record LowestRule (M : ℕ → Type 0) (rs : List InputRule) (k : ℕ) : Typ
 -- `Broken k` exactly where questions 41 to 43 are passed, the set equals the least model, and k is that number
 abbrev pub LowestBroken : Type 0
 LowestBroken =
-    (table : List ℤ) (rules : ℕ) (l before after : List ℕ) (r : SetAnswer) → SetTested table rules l before after r → (k : ℕ)
-    → (r ≡ Broken k)
+    (table : List ℤ) (rules : ℕ) (l before after : List ℕ) (r : Result SetAnswer SetFault) → SetTested table rules l before after r → (k : ℕ)
+    → (r ≡ Ok (Broken k))
     ↔ ((rs : List InputRule) × ReadAs table rules rs × (ascends 0 (atoms rs) l ≡ true) × (length before ≡ entries)
     × ((v : ℕ) → Listed l v ↔ LeastModel (Listed l) (expand rs) v) × LowestRule (Listed l) rs k)

@@ -1,4 +1,5 @@
 -- What the set test answers, and what that says of answer sets.
+pub mod Numbers
 pub mod SetTest
 pub mod Private
 pub mod Claims

@@ -1,18 +1,16 @@
 -- What the contracts of the private functions cite besides specs/SetTest.antt; no reader of the public contract needs it.
 -- Assumes nothing.
-use Rattle.std.specs.Prelude.{◌≡◌, Bool, true, List, ℕ, ◌≤◌, ℤ, length, drop, get_or}
+use Rattle.std.specs.Prelude.{◌≡◌, Bool, true, List, ℕ, ◌≤◌, ℤ, length, drop, get_or, Option as Found, None, Some}
 use Rattle.std.proofs.Math.Option.{Option, none, some}
 use Rattle.words.specs.Lists.{◌∈◌}
 use Rattle.aspif.specs.Rules.{InputRule}
 use Rattle.aspif.specs.Tables.{rule_at, sound_at, rules_at}
 use Rattle.answer_set.specs.SetTest.{give_rule}
-use Rattle.answer_set.specs.declared.answers.Search.{Search}
-use Rattle.answer_set.specs.declared.answers.Search.TheVariants.{At, Nothing}
 
 -- what a search tells of the number that it found, or that there is none
-abbrev pub searched : Option ℕ → Search
-searched none = Nothing
-searched (some v) = At v
+abbrev pub searched : Option ℕ → Found ℕ
+searched none = None
+searched (some v) = Some v
 
 -- one of the table's rules begins at word i, and all numbers listed are of such words
 pub record RuleStart (table : List ℤ) (rules i : ℕ) : Type 0 where

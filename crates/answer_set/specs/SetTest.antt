@@ -2,7 +2,7 @@
 -- here is what the code is held to; specs/Claims.antt says how it stands to the reader's own definition and to
 -- crates/aspif/specs/AnswerSets.antt.
 -- Assumes nothing.
-use Rattle.std.specs.Prelude.{◌≡◌, Bool, true, false, cond, not, ◌&&◌, List, [], ◌∷◌, ℕ, zero, suc, ◌+◌, eqb, leb, ℤ, pos, negsuc, length, set, replicate}
+use Rattle.std.specs.Prelude.{◌≡◌, Bool, true, false, cond, not, ◌&&◌, List, [], ◌∷◌, ℕ, zero, suc, ◌+◌, eqb, leb, ℤ, pos, negsuc, length, set, replicate, Result, Ok, Err}
 use Rattle.std.proofs.Math.Option.{Option, none, some}
 use Rattle.words.specs.Limits.{entries}
 use Rattle.words.specs.Lists.{all, filter, ascends}
@@ -12,7 +12,9 @@ use Rattle.aspif.specs.Rules.{Body, plain, weights, InputRule, is_normal, is_emp
 use Rattle.aspif.specs.declared.Kind.{Kind}
 use Rattle.aspif.specs.declared.Kind.TheVariants.{Normal, Choice}
 use Rattle.answer_set.specs.declared.SetAnswer.{SetAnswer}
-use Rattle.answer_set.specs.declared.SetAnswer.TheVariants.{Yes, Differs, Broken, Refused}
+use Rattle.answer_set.specs.declared.SetAnswer.TheVariants.{Yes, Differs, Broken}
+use Rattle.answer_set.specs.declared.SetFault.{SetFault}
+use Rattle.answer_set.specs.declared.SetFault.TheVariants.{Unreadable, NotAscending, WrongMarks}
 use Rattle.marks.specs.Marks.{listed, marked}
 use Rattle.aspif.specs.Tables.{rules_of}
 
@@ -111,13 +113,13 @@ module _ (M : ℕ → Bool) where
 -- The three questions, in their order
 
 pub data Asked : Type 0 where
-  refused : ℕ → Asked
+  refused : SetFault → Asked
   passed : List InputRule → Asked
 
 -- "Is M strictly ascending within 1 to N? 42. Are there exactly 4,096 marks? 43.", which are 8,192 since Change 6
 abbrev pub asked_of : Option (List InputRule) → List ℕ → ℕ → Asked
-asked_of none l marks = refused 41
-asked_of (some rs) l marks = cond (ascends 0 (atoms rs) l) (cond (eqb marks entries) (passed rs) (refused 43)) (refused 42)
+asked_of none l marks = refused Unreadable
+asked_of (some rs) l marks = cond (ascends 0 (atoms rs) l) (cond (eqb marks entries) (passed rs) (refused WrongMarks)) (refused NotAscending)
 
 unfoldable pub asked : List ℤ → ℕ → List ℕ → ℕ → Asked
 asked table rules l marks = asked_of (rules_of table rules) l marks
@@ -130,16 +132,16 @@ said_of yes = Yes
 said_of (differs v) = Differs v
 said_of (breaks k) = Broken k
 
-abbrev pub set_answer : List ℕ → Asked → SetAnswer
-set_answer l (refused k) = Refused k
-set_answer l (passed rs) = said_of (verdict_of (listed l) rs)
+abbrev pub set_answer : List ℕ → Asked → Result SetAnswer SetFault
+set_answer l (refused f) = Err f
+set_answer l (passed rs) = Ok (said_of (verdict_of (listed l) rs))
 
 -- "The marks afterwards hold 1 at each atom of the least model and 0 elsewhere"; "Every refusal zeroes the whole of the .. marks"
 abbrev pub marks_of : List ℕ → Asked → ℕ → List ℕ
-marks_of l (refused k) marks = replicate marks 0
+marks_of l (refused f) marks = replicate marks 0
 marks_of l (passed rs) marks = least (listed l) rs
 
 -- the public contract: the answer and every mark
-pub record SetTested (table : List ℤ) (rules : ℕ) (l before after : List ℕ) (r : SetAnswer) : Type 0 where
+pub record SetTested (table : List ℤ) (rules : ℕ) (l before after : List ℕ) (r : Result SetAnswer SetFault) : Type 0 where
   pub answer : r ≡ set_answer l (asked table rules l (length before))
   pub marks : after ≡ marks_of l (asked table rules l (length before)) (length before)

@@ -1,64 +1,44 @@
 // The answer on a set, once the least model is marked.
 ghost use Rattle.std.specs.Prelude.{◌≡◌, true, ◌+◌, ◌≤◌};
 ghost use Rattle.words.specs.Limits.{largest, entries};
-ghost use Rattle.aspif.specs.Tables.{rule_at, shape_sound, sound_at, rules_at, sound_table};
+ghost use Rattle.aspif.specs.Tables.{rule_at, rules_at, sound_table};
 ghost use Rattle.marks.specs.Marks.{marked};
 ghost use Rattle.answer_set.specs.SetTest.{is_constraint, is_broken, lowest_from, just_one, shown, broken_from, differs_at, said_of};
 ghost use Rattle.answer_set.specs.Private.{searched};
 
 use crate::{SetAnswer, models};
-use aspif::{Kind, tables};
-
-// What a search finds.
-#[derive(Drop)]
-pub enum Search {
-    At(u16),
-    Nothing,
-}
+use aspif::Kind;
+use aspif::tables::{self, Rule};
 
 // One of the two holds.
 fn just_one(a: bool, b: bool) -> bool
     ensures { result ≡ just_one a b }
 {
-    if a { !b } else { b }
+    a != b
 }
 
 // The lowest number below n that lies in just one of M and the least model, if there is one.
-fn differing(inside: &[u8], marks: &[u8], n: usize) -> Search
+fn differing(inside: &[u8], marks: &[u8], n: usize) -> Option<u16>
     requires { n ≤ entries }
     ensures { result ≡ searched (lowest_from (differs_at (marked inside.now) marks.now) n 0) }
 {
-    let mut i = 0;
-    while i < n {
-        if just_one(marks::is_marked(inside, i), marks::is_marked(marks, i)) {
-            return Search::At(i as u16);
-        }
-        i += 1;
-    }
-    Search::Nothing
+    (0..n)
+        .find(|i| just_one(marks::is_marked(inside, *i), marks::is_marked(marks, *i)))
+        .map(|i| i as u16)
 }
 
-// The rule at the front is a constraint.
-fn is_constraint(words: &[i32]) -> bool
-    requires { shape_sound words.now ≡ true }
-    ensures { result ≡ is_constraint (rule_at words.now) }
+// The rule is a constraint.
+fn is_constraint(rule: &Rule) -> bool
+    ensures { result ≡ is_constraint (rule_at rule.now.words.now) }
 {
-    let kind = tables::kind_of(words);
-    match kind {
-        Kind::Normal => tables::heads_of(words).len() == 0,
-        Kind::Choice => false,
-    }
+    rule.kind() == Kind::Normal && rule.heads().is_empty()
 }
 
-// The rule at the front is a constraint that M breaks.
-fn is_broken(words: &[i32], inside: &[u8]) -> bool
-    requires { sound_at words.now ≡ true }
-    ensures { result ≡ is_broken (marked inside.now) (rule_at words.now) }
+// The rule is a constraint that M breaks.
+fn is_broken(rule: &Rule, inside: &[u8]) -> bool
+    ensures { result ≡ is_broken (marked inside.now) (rule_at rule.now.words.now) }
 {
-    if is_constraint(words) {
-        return models::body_holds(words, inside, inside);
-    }
-    false
+    is_constraint(rule) && models::body_holds(rule, inside, inside)
 }
 
 // The lowest broken constraint, or yes.
@@ -66,19 +46,10 @@ fn first_broken(table: &[i32], rules: usize, inside: &[u8]) -> SetAnswer
     requires { sound_table table.now rules ≡ true }
     ensures { result ≡ said_of (broken_from (marked inside.now) 1 (rules_at rules table.now)) }
 {
-    let mut number = 1;
-    let mut left = rules;
-    let mut i = 0;
-    while 0 < left {
-        let rest = &table[i..];
-        if is_broken(rest, inside) {
-            return SetAnswer::Broken(number);
-        }
-        i = tables::next_rule(table, i);
-        number += 1;
-        left -= 1;
+    match tables::rules_in(table, rules).position(|rule| is_broken(&rule, inside)) {
+        Some(i) => SetAnswer::Broken(i + 1),
+        None => SetAnswer::Yes,
     }
-    SetAnswer::Yes
 }
 
 // The answer for a set M and the marks of the least model, with atoms from 1 to the number given.
@@ -88,9 +59,8 @@ pub fn judge(table: &[i32], rules: usize, atoms: usize, inside: &[u8], marks: &[
         result ≡ said_of (shown (lowest_from (differs_at M marks.now) (atoms + 1) 0)
         (broken_from M 1 (rules_at rules table.now))) }
 {
-    let found = differing(inside, marks, atoms + 1);
-    match found {
-        Search::At(v) => SetAnswer::Differs(v),
-        Search::Nothing => first_broken(table, rules, inside),
+    match differing(inside, marks, atoms + 1) {
+        Some(v) => SetAnswer::Differs(v),
+        None => first_broken(table, rules, inside),
     }
 }

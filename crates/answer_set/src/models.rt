@@ -3,11 +3,12 @@ ghost use Rattle.std.specs.Prelude.{◌≡◌, true, cond, ◌≤◌};
 ghost use Rattle.words.specs.Lists.{all};
 ghost use Rattle.words.specs.Literals.{variable};
 ghost use Rattle.weights.specs.Weights.{sum, paired, most_sum};
-ghost use Rattle.aspif.specs.Tables.{body_at, rule_at, sound_at, rules_at, sound_rules};
+ghost use Rattle.aspif.specs.Tables.{body_at, rule_at, rules_at, sound_rules};
 ghost use Rattle.marks.specs.Marks.{marked, Marking};
 ghost use Rattle.answer_set.specs.SetTest.{literal_holds, held_sum, body_holds, gives, give_head, give_heads, give_rule, round, rounds};
 
-use aspif::{Kind, tables};
+use aspif::Kind;
+use aspif::tables::{self, Rule};
 
 // A positive literal's atom is marked; a negated one's is outside M.
 pub fn literal_holds(word: i32, inside: &[u8], marks: &[u8]) -> bool
@@ -24,15 +25,7 @@ pub fn literal_holds(word: i32, inside: &[u8], marks: &[u8]) -> bool
 fn all_hold(body: &[i32], inside: &[u8], marks: &[u8]) -> bool
     ensures { result ≡ all (literal_holds (marked inside.now) (marked marks.now)) body.now }
 {
-    let mut i = 0;
-    while i < body.len() {
-        if literal_holds(body[i], inside, marks) {
-            i += 1;
-        } else {
-            return false;
-        }
-    }
-    true
+    body.iter().all(|x| literal_holds(*x, inside, marks))
 }
 
 // The weight of a literal that holds, and 0 else.
@@ -51,24 +44,20 @@ pub fn sum_held(pairs: &[i32], inside: &[u8], marks: &[u8]) -> usize
     ensures { result ≡ held_sum (marked inside.now) (marked marks.now) (paired pairs.now) }
 {
     let mut total = 0;
-    let mut i = 0;
-    while i + 1 < pairs.len() {
-        total += weight_held(pairs[i], pairs[i + 1], inside, marks);
-        i += 2;
+    for pair in pairs.chunks_exact(2) {
+        total += weight_held(pair[0], pair[1], inside, marks);
     }
     total
 }
 
-// The body of the rule at the front holds.
-pub fn body_holds(words: &[i32], inside: &[u8], marks: &[u8]) -> bool
-    requires { sound_at words.now ≡ true }
-    ensures { result ≡ body_holds (marked inside.now) (marked marks.now) (body_at words.now) }
+// The rule's body holds.
+pub fn body_holds(rule: &Rule, inside: &[u8], marks: &[u8]) -> bool
+    ensures { result ≡ body_holds (marked inside.now) (marked marks.now) (body_at rule.now.words.now) }
 {
-    let body = tables::body_of(words);
-    if tables::is_weighted(words) {
-        return tables::bound_of(words) <= sum_held(body, inside, marks);
+    if rule.is_weighted() {
+        return rule.bound() <= sum_held(rule.body(), inside, marks);
     }
-    all_hold(body, inside, marks)
+    all_hold(rule.body(), inside, marks)
 }
 
 // A choice rule gives a head only where it is in M.
@@ -82,6 +71,7 @@ fn gives_head(kind: Kind, inside: &[u8], v: usize) -> bool
 }
 
 // A head that its rule gives is marked; whether it was not.
+#[tactic(auto, unfolding(crate::specs::SetTest::give_head))]
 fn give_head(head: i32, kind: Kind, inside: &[u8], marks: &mut [u8]) -> bool
     ensures { Marking (give_head (marked inside.now) kind head marks.old) marks.old
         marks.new result }
@@ -99,45 +89,34 @@ fn give_heads(heads: &[i32], kind: Kind, inside: &[u8], marks: &mut [u8]) -> boo
         marks.old marks.new result }
 {
     let mut new = false;
-    let mut i = 0;
-    while i < heads.len() {
-        if give_head(heads[i], kind, inside, marks) {
-            new = true;
-        }
-        i += 1;
+    for head in heads {
+        new = give_head(*head, kind, inside, marks) | new;
     }
     new
 }
 
-// The rule at the front marks what it gives; whether a mark is new.
-pub fn give_rule(words: &[i32], inside: &[u8], marks: &mut [u8]) -> bool
-    requires { sound_at words.now ≡ true }
-    ensures { Marking (give_rule (marked inside.now) (rule_at words.now) marks.old)
+// The rule marks what it gives; whether a mark is new.
+#[tactic(auto, unfolding(crate::specs::SetTest::give_rule))]
+pub fn give_rule(rule: &Rule, inside: &[u8], marks: &mut [u8]) -> bool
+    ensures { Marking (give_rule (marked inside.now) (rule_at rule.now.words.now) marks.old)
         marks.old marks.new result }
 {
-    if body_holds(words, inside, marks) {
-        let kind = tables::kind_of(words);
-        return give_heads(tables::heads_of(words), kind, inside, marks);
+    if body_holds(rule, inside, marks) {
+        return give_heads(rule.heads(), rule.kind(), inside, marks);
     }
     false
 }
 
 // One round over the rules; whether a mark is new.
+#[tactic(auto, using(crate::proofs::Marking::rules_from_starts))]
 fn give_all(table: &[i32], rules: usize, inside: &[u8], marks: &mut [u8]) -> bool
     requires { sound_rules rules table.now ≡ true }
     ensures { Marking (round (marked inside.now) (rules_at rules table.now) marks.old)
         marks.old marks.new result }
 {
     let mut new = false;
-    let mut left = rules;
-    let mut i = 0;
-    while 0 < left {
-        let rest = &table[i..];
-        if give_rule(rest, inside, marks) {
-            new = true;
-        }
-        i = tables::next_rule(table, i);
-        left -= 1;
+    for rule in tables::rules_in(table, rules) {
+        new = give_rule(&rule, inside, marks) | new;
     }
     new
 }
@@ -148,11 +127,9 @@ pub fn close(table: &[i32], rules: usize, most: usize, inside: &[u8], marks: &mu
     ensures { marks.new ≡ rounds (marked inside.now) most (rules_at rules table.now)
         marks.old }
 {
-    let mut left = most;
-    while 0 < left {
+    for _ in 0..most {
         if !give_all(table, rules, inside, marks) {
             return;
         }
-        left -= 1;
     }
 }

@@ -7,21 +7,22 @@
 ghost use Rattle.std.specs.Prelude.{◌≡◌, true, ◌<◌, ◌≤◌, length, replicate};
 ghost use Rattle.words.specs.Limits.{entries, most_rules};
 ghost use Rattle.aspif.specs.Rules.{atoms};
-ghost use Rattle.aspif.specs.Tables.{sound_at, rules_at, sound_table};
+ghost use Rattle.aspif.specs.Tables.{rules_at, sound_table};
 ghost use Rattle.marks.specs.Marks.{marked};
 ghost use Rattle.answer_set.specs.SetTest.{least};
 ghost use Rattle.answer_set.specs.Private.{RuleStarts, Given};
 
 use crate::models;
-use aspif::tables;
+use aspif::tables::{self, Rule};
 
 // With fewer rules the rounds alone are as quick.
 const FEW: usize = 16;
 
 const STRIDE: usize = words::MOST_RULES + 1;
 
-// The cells: by atom, the first entry that waits for it; by entry, the next in its list; by rule, the place of the first body literal that
-// may not hold, and with a weight body 0 at first, 1 once it waits and 2 once it is given.
+// The cells: by atom, the first entry that waits for it; by entry, the next in its list; by rule, the place of the first
+// body literal that may not hold, and with a weight body 0 at first, 1 once it waits and 2 once it is given. One array
+// of numbers holds them all: an enum for a state, an Option for an entry would only be turned into numbers again.
 const NEXT: usize = words::ENTRIES;
 
 const SEEN: usize = NEXT + weights::MOST_WEIGHTED * STRIDE;
@@ -35,15 +36,16 @@ const MOST_LOOKS: usize = 131072;
 fn get(cells: &[u16; CELLS], i: usize) -> usize
     ensures { result ≤ 65535 }
 {
-    if i < CELLS { words::wide(cells[i]) } else { 0 }
+    match cells.get(i) {
+        Some(c) => usize::from(*c),
+        None => 0,
+    }
 }
 
 // The cell at i becomes v, where both fit.
 fn put(cells: &mut [u16; CELLS], i: usize, v: usize) {
-    if i < CELLS {
-        if v <= 65535 {
-            cells[i] = v as u16;
-        }
+    if let (Some(c), Ok(w)) = (cells.get_mut(i), u16::try_from(v)) {
+        *c = w;
     }
 }
 
@@ -59,94 +61,82 @@ fn wait(word: i32, entry: usize, marks: &[u8], cells: &mut [u16; CELLS])
     }
 }
 
-// The place of the first literal, from a place on, that does not hold; the body's length or more where all hold.
-fn open_from(body: &[i32], from: usize, inside: &[u8], marks: &[u8]) -> usize {
-    let mut i = from;
-    while i < body.len() {
-        if !models::literal_holds(body[i], inside, marks) {
-            return i;
-        }
-        i += 1;
-    }
-    i
-}
-
-// Whether a plain body holds; if not, its rule waits.
+// Whether a plain body holds; if not, its rule waits for the first literal that does not. Those before the place in the
+// rule's cell hold.
 fn plain_holds(
     body: &[i32],
-    rule: usize,
+    number: usize,
     inside: &[u8],
     marks: &[u8],
     cells: &mut [u16; CELLS],
 ) -> bool
-    requires { rule ≤ most_rules }
+    requires { number ≤ most_rules }
 {
-    let i = open_from(body, get(cells, SEEN + rule), inside, marks);
-    if i < body.len() {
-        put(cells, SEEN + rule, i);
-        wait(body[i], rule, marks, cells);
-        return false;
+    let from = get(cells, SEEN + number);
+    let open = (from..body.len()).find(|i| !models::literal_holds(body[*i], inside, marks));
+    match open {
+        Some(i) => {
+            put(cells, SEEN + number, i);
+            wait(body[i], number, marks, cells);
+            false
+        }
+        None => true,
     }
-    true
 }
 
 // A rule with a weight body waits for each of its literals, once.
-fn wait_once(pairs: &[i32], rule: usize, marks: &[u8], cells: &mut [u16; CELLS])
-    requires { rule ≤ most_rules }
+fn wait_once(pairs: &[i32], number: usize, marks: &[u8], cells: &mut [u16; CELLS])
+    requires { number ≤ most_rules }
 {
-    if get(cells, SEEN + rule) != 0 {
+    if get(cells, SEEN + number) != 0 {
         return;
     }
-    put(cells, SEEN + rule, 1);
-    let mut k = 0;
-    while k < weights::MOST_WEIGHTED {
+    put(cells, SEEN + number, 1);
+    for k in 0..weights::MOST_WEIGHTED {
         wait(
             words::word_at(pairs, 2 * k),
-            rule + STRIDE * k,
+            number + STRIDE * k,
             marks,
             cells,
         );
-        k += 1;
     }
 }
 
-// Whether the weight body of the rule at the front holds for the first time; if not, its rule waits.
+// Whether the weight body of the rule holds for the first time; if not, the rule waits.
 fn weights_hold(
-    words: &[i32],
-    rule: usize,
+    rule: &Rule,
+    number: usize,
     inside: &[u8],
     marks: &[u8],
     cells: &mut [u16; CELLS],
 ) -> bool
-    requires words_value { sound_at words.now ≡ true }
-    requires rule_le_most_rules { rule ≤ most_rules }
+    requires { number ≤ most_rules }
 {
-    wait_once(tables::body_of(words), rule, marks, cells);
-    if get(cells, SEEN + rule) == 2 {
+    wait_once(rule.body(), number, marks, cells);
+    if get(cells, SEEN + number) == 2 {
         return false;
     }
-    if models::body_holds(words, inside, marks) {
-        put(cells, SEEN + rule, 2);
+    if models::body_holds(rule, inside, marks) {
+        put(cells, SEEN + number, 2);
         return true;
     }
     false
 }
 
-// Whether the rule at the front is to be given; if not, it waits.
+// Whether the rule is to be given; if not, it waits.
 fn is_ready(
-    words: &[i32],
-    rule: usize,
+    rule: &Rule,
+    number: usize,
     inside: &[u8],
     marks: &[u8],
     cells: &mut [u16; CELLS],
 ) -> bool
-    requires words_value { sound_at words.now ≡ true }
-    requires rule_le_most_rules { rule ≤ most_rules }
+    requires { number ≤ most_rules }
 {
-    if tables::is_weighted(words) {
-        return weights_hold(words, rule, inside, marks, cells);
+    if rule.is_weighted() {
+        return weights_hold(rule, number, inside, marks, cells);
     }
-    plain_holds(tables::body_of(words), rule, inside, marks, cells)
+    plain_holds(rule.body(), number, inside, marks, cells)
 }
 
 // The last entry of the list that begins with one.
@@ -155,14 +145,12 @@ fn last_of(first: usize, cells: &[u16; CELLS]) -> usize
     ensures { result ≤ 65535 }
 {
     let mut at = first;
-    let mut left = CELLS;
-    while 0 < left {
+    for _ in 0..CELLS {
         let next = get(cells, NEXT + at);
         if next == 0 {
             return at;
         }
         at = next;
-        left -= 1;
     }
     at
 }
@@ -189,10 +177,8 @@ fn wake_all(heads: &[i32], work: usize, marks: &[u8], cells: &mut [u16; CELLS]) 
     ensures { result ≤ 65535 }
 {
     let mut first = work;
-    let mut i = 0;
-    while i < heads.len() {
-        first = wake(heads[i], first, marks, cells);
-        i += 1;
+    for head in heads {
+        first = wake(*head, first, marks, cells);
     }
     first
 }
@@ -213,12 +199,13 @@ fn look(
     ensures given { Given (marked inside.now) (rules_at rules table.now) marks.old marks.new }
 {
     let work = get(cells, NEXT + entry);
-    let rule = entry % STRIDE;
-    let start = starts[rule];
-    let rest = &table[start..];
-    if is_ready(rest, rule, inside, marks, cells) {
-        models::give_rule(rest, inside, marks);
-        return wake_all(tables::heads_of(rest), work, marks, cells);
+    let number = entry % STRIDE;
+    let rule = Rule {
+        words: &table[starts[number]..],
+    };
+    if is_ready(&rule, number, inside, marks, cells) {
+        models::give_rule(&rule, inside, marks);
+        return wake_all(rule.heads(), work, marks, cells);
     }
     work
 }
@@ -230,12 +217,10 @@ fn starts_of(table: &[i32], rules: usize) -> [usize; STRIDE]
     ensures { RuleStarts table.now rules result }
 {
     let mut starts = [0usize; STRIDE];
-    let mut i = 0;
-    let mut left = rules;
-    while 0 < left {
-        starts[left] = i;
-        i = tables::next_rule(table, i);
-        left -= 1;
+    let mut start = 0;
+    for (before, rule) in tables::rules_in(table, rules).enumerate() {
+        starts[rules - before] = start;
+        start += rule.size();
     }
     starts
 }
@@ -244,10 +229,8 @@ fn starts_of(table: &[i32], rules: usize) -> [usize; STRIDE]
 fn link_all(rules: usize, cells: &mut [u16; CELLS])
     requires { rules ≤ most_rules }
 {
-    let mut left = rules;
-    while 0 < left {
-        put(cells, NEXT + left, left - 1);
-        left -= 1;
+    for rule in 1..rules + 1 {
+        put(cells, NEXT + rule, rule - 1);
     }
 }
 
@@ -265,13 +248,11 @@ fn work_off(
     ensures { Given (marked inside.now) (rules_at rules table.now) marks.old marks.new }
 {
     let mut entry = rules;
-    let mut left = MOST_LOOKS;
-    while 0 < left {
+    for _ in 0..MOST_LOOKS {
         if entry == 0 {
             return;
         }
         entry = look(table, rules, starts, entry, inside, marks, cells);
-        left -= 1;
     }
 }
 

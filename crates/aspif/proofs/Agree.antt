@@ -19,9 +19,12 @@ use Rattle.aspif.specs.Turns.{row_size}
 use Rattle.aspif.specs.declared.Kind.{Kind}
 use Rattle.aspif.specs.declared.Kind.TheVariants.{Normal, Choice}
 use Rattle.aspif.specs.declared.rules.Shape.{Shape}
-use Rattle.aspif.specs.declared.rules.Shape.TheVariants.{Wrong, Shaped, Weighed}
+use Rattle.aspif.specs.declared.rules.Shape.TheVariants.{Shaped, Weighed}
 use Rattle.aspif.proofs.Counts.{count-small-at, Counted, shape-counted}
 use Rattle.words.proofs.Lists.{and_left, and_right}
+use Rattle.std.specs.Prelude.{Result, Ok, Err}
+use Rattle.aspif.specs.declared.ProgramFault.TheVariants.{WrongCount}
+use Rattle.aspif.specs.declared.ProgramFault.{ProgramFault}
 
 -- the row that holds a line's numbers, as many as it has room for, and 0 after them
 abbrev pub row_of : List ℤ → List ℤ
@@ -39,7 +42,7 @@ module _ (zs : List ℤ) where
           let l = leb-false (length zs) i e in
           rw zero-add at (sets-in (pos 0) zs (replicate row_size (pos 0)) 0 i (omega (arith, length-replicate row_size (pos 0))) l)
 
-by-agree : (t : Bool) (x y z : Shape) → (t ≡ true → x ≡ y) → cond t x z ≡ cond t y z
+by-agree : (t : Bool) (x y z : Result Shape ProgramFault) → (t ≡ true → x ≡ y) → cond t x z ≡ cond t y z
 by-agree true x y z e = e refl
 by-agree false x y z e = refl
 
@@ -63,7 +66,7 @@ module _ (most : ℕ) (a b : List ℤ) (n : ℕ) (f : (i : ℕ) → i < row_size
   weighed-agree : (k : Kind) (h : ℕ) → h ≤ most_literals → weighed_within most a n k h ≡ weighed_within most b n k h
   weighed-agree k h l =
       rw (count-agree (5 + h) (omega arith), f (5 + h) (omega arith))
-      (by-agree (is_count_at b n (5 + h) && eqb (6 + h + 2 * m) n) (few_within most a k h m) (few_within most b k h m) (Wrong 6) on)
+      (by-agree (is_count_at b n (5 + h) && eqb (6 + h + 2 * m) n) (few_within most a k h m) (few_within most b k h m) (Err WrongCount) on)
     where
       m : ℕ
       m = variable (get_or b (5 + h) (pos 0))
@@ -81,7 +84,7 @@ module _ (most : ℕ) (a b : List ℤ) (n : ℕ) (f : (i : ℕ) → i < row_size
   head-agree k =
       let h = variable (get_or b 2 (pos 0)) in
       rw (count-agree 2 (omega arith), f 2 (omega arith))
-      (by-agree (is_count_at b n 2 && leb (3 + h) n) (body_within most a n k h) (body_within most b n k h) (Wrong 6)
+      (by-agree (is_count_at b n 2 && leb (3 + h) n) (body_within most a n k h) (body_within most b n k h) (Err WrongCount)
       (λ e. body-agree k h (count-small-at b n 2 (and_left (is_count_at b n 2) (leb (3 + h) n) e))))
 
   pub shape-agree : shape_within most a n ≡ shape_within most b n
@@ -101,10 +104,10 @@ module _ (most : ℕ) (zs : List ℤ) where
       rw (shape-agree most (row_of zs) zs (length zs) (row_at zs) (λ i m e l. part-agree i m (omega arith) l))
       (by (shape_within most zs (length zs)) (shape-counted most zs (length zs)))
     where
-      by : (s : Shape) → Counted most zs (length zs) s → rule_of (row_of zs) s ≡ rule_of zs s
-      by (Wrong k) w = refl
-      by (Shaped k h b) w = rw (part-agree 3 h (omega arith) (omega arith), part-agree (5 + h) b (omega arith) (omega arith))
-      by (Weighed k h b) w =
+      by : (s : Result Shape ProgramFault) → Counted most zs (length zs) s → rule_of (row_of zs) s ≡ rule_of zs s
+      by (Err k) w = refl
+      by (Ok (Shaped k h b)) w = rw (part-agree 3 h (omega arith) (omega arith), part-agree (5 + h) b (omega arith) (omega arith))
+      by (Ok (Weighed k h b)) w =
           rw (part-agree 3 h (omega arith) (omega arith), part-agree (6 + h) (2 * b) (omega arith) (omega arith), row_at zs (4 + h) (omega arith))
 
 -- the same of a row and a count that are told to be the line's

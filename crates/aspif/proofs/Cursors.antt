@@ -2,7 +2,7 @@
 -- Assumes nothing.
 use mathlib.Core.Path.{◌≡◌, refl, sym, ◌∙◌, ap}
 use mathlib.Core.Bool.{true, ◌&&◌, Bool, cond, false, not, and-false}
-use mathlib.Core.List.{List, [], ◌∷◌}
+use mathlib.Core.List.{List, [], ◌∷◌, map}
 use Prim.Native.Nat.{ℕ, zero, suc, ◌+◌, ◌*◌, ◌-◌, ◌≤◌, ◌<◌}
 use native.Mathlib.Omega.{arith}
 use borrow.Author.Tests.{leb-true, lt-leb}
@@ -21,7 +21,7 @@ use Rattle.aspif.specs.Rules.{plain, weights, is_plain_body, is_plain, literals_
 use Rattle.aspif.proofs.Counts.{count_small}
 use Rattle.words.specs.Limits.{most_literals, most_rules, largest}
 use Rattle.words.proofs.Lists.{and_left, and_right, one_less, nothing_left}
-use Rattle.aspif.specs.Tables.{is_kind, is_weighted, is_headed, heads_sound, literals_sound, head_count, body_count, head_start, body_length, size_at, heads_at, body_words_at, bound_at, body_at, rule_at, shape_sound, weights_sound, body_sound, sound_at, rules_at, sound_rules, sound_table, rules_of}
+use Rattle.aspif.specs.Tables.{is_kind, is_weighted, is_headed, heads_sound, literals_sound, head_count, body_count, head_start, body_length, size_at, heads_at, body_words_at, bound_at, body_at, rule_at, shape_sound, weights_sound, body_sound, sound_at, starts_at, rules_at, sound_rules, sound_table, rules_of}
 
 -- the counts are small, and the words are there
 pub record Shaped (ws : List ℤ) : Type 0 where
@@ -170,3 +170,23 @@ rules-of table rules rs = by (sound_table table rules) refl
     by : (b : Bool) → sound_table table rules ≡ b → cond b (some (rules_at rules table)) none ≡ some rs → (sound_table table rules ≡ true) × (rules_at rules table ≡ rs)
     by true e p = (e, some-injective _ _ p)
     by false e p = absurd (none-ne-some rs p)
+
+-- The words from each rule on, as an iterator over the rules gives them
+
+pub starts-on : (n : ℕ) (ws : List ℤ) → 0 < n → starts_at n ws ≡ ws ∷ starts_at (n - 1) (drop (size_at ws) ws)
+starts-on n ws h = ap (λ k. starts_at k ws) (one_less n h)
+
+pub starts-length : (n : ℕ) (ws : List ℤ) → length (starts_at n ws) ≡ n
+starts-length zero ws = refl
+starts-length (suc n) ws = ap suc (starts-length n (drop (size_at ws) ws))
+
+-- the rule that stands first, and those behind it
+pub first-sound : (n : ℕ) (ws : List ℤ) → 0 < n → sound_rules n ws ≡ true → (sound_at ws ≡ true) × (sound_rules (n - 1) (drop (size_at ws) ws) ≡ true)
+first-sound n ws h e =
+    let f = sym (sound-on n ws h) ∙ e in
+    (and_left (sound_at ws) _ f, and_right (sound_at ws) _ f)
+
+-- the rules are those that begin there
+pub rules_from_starts : (n : ℕ) (ws : List ℤ) → rules_at n ws ≡ map rule_at (starts_at n ws)
+rules_from_starts zero ws = refl
+rules_from_starts (suc n) ws = ap (λ rs. rule_at ws ∷ rs) (rules_from_starts n (drop (size_at ws) ws))

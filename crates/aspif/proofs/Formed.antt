@@ -28,9 +28,12 @@ use Rattle.text.specs.Strings.{starts_with}
 use Rattle.aspif.specs.declared.Kind.{Kind}
 use Rattle.aspif.specs.declared.Kind.TheVariants.{Normal, Choice}
 use Rattle.aspif.specs.declared.rules.Shape.{Shape}
-use Rattle.aspif.specs.declared.rules.Shape.TheVariants.{Wrong, Shaped, Weighed}
+use Rattle.aspif.specs.declared.rules.Shape.TheVariants.{Shaped, Weighed}
 use Rattle.aspif.proofs.Counts.{Counted, shape-counted}
 use Rattle.aspif.proofs.PairWords.{up_to, length-paired, paired-light, literals-arranged, length-arranged, arranged-light}
+use Rattle.std.specs.Prelude.{Result, Ok, Err}
+use Rattle.aspif.specs.declared.ProgramFault.TheVariants.{NoHeader, WrongKind, WrongCount, UnsuitedHeads, WeightOutOfRange, TooManyWeights}
+use Rattle.aspif.specs.declared.ProgramFault.{ProgramFault}
 
 -- what `Within` 12 says, for the tables of the documents
 
@@ -92,46 +95,46 @@ ascending-in zs e = inside_of (ascending zs) (λ z i. inside zs e z (ascending�
 -- One line
 
 -- a shape that is no refusal suits its kind
-abbrev Suits : Shape → Type 0
-Suits (Wrong k) = Unit {0}
-Suits (Shaped k h b) = suits k h ≡ true
-Suits (Weighed k h b) = suits k h ≡ true
+abbrev Suits : (Result Shape ProgramFault) → Type 0
+Suits (Err k) = Unit {0}
+Suits (Ok (Shaped k h b)) = suits k h ≡ true
+Suits (Ok (Weighed k h b)) = suits k h ≡ true
 
 -- a shape where a test is passed, and a refusal with the number w where it is not
-or-wrong : (w : ℕ) (t : Bool) (x : Shape) → (t ≡ true → Suits x) → Suits (cond t x (Wrong w))
+or-wrong : (w : ProgramFault) (t : Bool) (x : Result Shape ProgramFault) → (t ≡ true → Suits x) → Suits (cond t x (Err w))
 or-wrong w t x f = by-test Suits t f (λ e. tt)
 
 module _ (most : ℕ) (zs : List ℤ) (n : ℕ) where
   weighed-suits : (k : Kind) (h : ℕ) → Suits (weighed_within most zs n k h)
   weighed-suits k h =
       let b = variable (get_or zs (5 + h) (pos 0)) in
-      or-wrong 6 (is_count_at zs n (5 + h) && eqb (6 + h + 2 * b) n) (few_within most zs k h b)
+      or-wrong WrongCount (is_count_at zs n (5 + h) && eqb (6 + h + 2 * b) n) (few_within most zs k h b)
       (λ e.
-      or-wrong 54 (ranged zs h b) (cond (leb b most) (suited k h (Weighed k h b)) (Wrong 55))
-      (λ f. or-wrong 55 (leb b most) (suited k h (Weighed k h b)) (λ g. or-wrong 7 (suits k h) (Weighed k h b) (λ s. s))))
+      or-wrong WeightOutOfRange (ranged zs h b) (cond (leb b most) (suited k h (Ok (Weighed k h b))) (Err TooManyWeights))
+      (λ f. or-wrong TooManyWeights (leb b most) (suited k h (Ok (Weighed k h b))) (λ g. or-wrong UnsuitedHeads (suits k h) (Ok (Weighed k h b)) (λ s. s))))
 
   plain-suits : (k : Kind) (h : ℕ) → Suits (plain_shape zs n k h)
   plain-suits k h =
       let b = variable (get_or zs (4 + h) (pos 0)) in
-      or-wrong 6 (is_count_at zs n (4 + h) && eqb (5 + h + b) n) (suited k h (Shaped k h b)) (λ e. or-wrong 7 (suits k h) (Shaped k h b) (λ s. s))
+      or-wrong WrongCount (is_count_at zs n (4 + h) && eqb (5 + h + b) n) (suited k h (Ok (Shaped k h b))) (λ e. or-wrong UnsuitedHeads (suits k h) (Ok (Shaped k h b)) (λ s. s))
 
   body-suits : (k : Kind) (h : ℕ) → Suits (body_within most zs n k h)
   body-suits k h =
       by-test Suits (is_at zs n (3 + h) (pos 0)) (λ e. plain-suits k h)
-      (λ e. or-wrong 5 (is_at zs n (3 + h) (pos 1)) (weighed_within most zs n k h) (λ f. weighed-suits k h))
+      (λ e. or-wrong WrongKind (is_at zs n (3 + h) (pos 1)) (weighed_within most zs n k h) (λ f. weighed-suits k h))
 
   head-suits : (k : Kind) → Suits (head_within most zs n k)
   head-suits k =
       let h = variable (get_or zs 2 (pos 0)) in
-      or-wrong 6 (is_count_at zs n 2 && leb (3 + h) n) (body_within most zs n k h) (λ e. body-suits k h)
+      or-wrong WrongCount (is_count_at zs n 2 && leb (3 + h) n) (body_within most zs n k h) (λ e. body-suits k h)
 
   shape-suits : Suits (shape_within most zs n)
   unfolding shape_within
   shape-suits =
-      or-wrong 5 (is_at zs n 0 (pos 1)) _
+      or-wrong WrongKind (is_at zs n 0 (pos 1)) _
       (λ e.
       by-test Suits (is_at zs n 1 (pos 0)) (λ f. head-suits Normal)
-      (λ f. or-wrong 5 (is_at zs n 1 (pos 1)) (head_within most zs n Choice) (λ g. head-suits Choice)))
+      (λ f. or-wrong WrongKind (is_at zs n 1 (pos 1)) (head_within most zs n Choice) (λ g. head-suits Choice)))
 
 abbrev ReadFormed : (most : ℕ) → RuleRead → Type 0
 ReadFormed most (fails k) = Unit {0}
@@ -170,16 +173,16 @@ part_length m n zs h = length-take-le m (drop n zs) (omega (arith, length-drop n
 part_in : (m n : ℕ) (zs : List ℤ) → any_outside zs ≡ false → any_outside (take m (drop n zs)) ≡ false
 part_in m n zs o = take_in m (drop n zs) (drop-in n zs o)
 
-rule-formed : (most : ℕ) (zs : List ℤ) → any_outside zs ≡ false → (x : Shape) → Counted most zs (length zs) x → Suits x → ReadFormed most (rule_of zs x)
+rule-formed : (most : ℕ) (zs : List ℤ) → any_outside zs ≡ false → (x : Result Shape ProgramFault) → Counted most zs (length zs) x → Suits x → ReadFormed most (rule_of zs x)
 unfolding ranged
-rule-formed most zs o (Wrong k) c s = tt
-rule-formed most zs o (Shaped k h b) c s =
+rule-formed most zs o (Err k) c s = tt
+rule-formed most zs o (Ok (Shaped k h b)) c s =
     let hs = take h (drop 3 zs) in
     let ls = take b (drop (5 + h) zs) in
     let many : length hs ≡ h = part_length h 3 zs (omega (arith, c.2)) in
     let long : length ls ≡ b = part_length b (5 + h) zs (omega (arith, c.2)) in
     with-formed most k hs ls (plain (ascending ls)) refl tt (rw many c.0) (rw long c.1) (rw many s) (part_in h 3 zs o) (part_in b (5 + h) zs o)
-rule-formed most zs o (Weighed k h b) c s =
+rule-formed most zs o (Ok (Weighed k h b)) c s =
     let hs = take h (drop 3 zs) in
     let ws = take (2 * b) (drop (6 + h) zs) in
     let ps = paired ws in
@@ -259,7 +262,7 @@ pub within-fits : ReadFits
 unfolding read_lines_within
 within-fits most size text rs e = by (starts_with header text) e
   where
-    by : (b : Bool) → cond b (lines_within most size (suc (length text)) (drop (length header) text) 2 []) (refused 2 1) ≡ program rs → FitsWithin most size rs
+    by : (b : Bool) → cond b (lines_within most size (suc (length text)) (drop (length header) text) 2 []) (refused NoHeader 1) ≡ program rs → FitsWithin most size rs
     by true p = lines_fit most size (suc (length text)) (drop (length header) text) 2 [] rs (record { formed = λ r i. elim i [ ]; few = omega arith; room = omega arith }) p
     by false p = absurd (let z : ◌≡◌ {A = ℕ} 0 1 = cc in omega arith)
 

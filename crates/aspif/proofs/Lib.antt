@@ -6,7 +6,6 @@ pub mod Pairs
 pub mod Rows
 pub mod Agree
 pub mod Passes
-pub mod Programs
 pub mod Formed
 pub mod Spelled
 pub mod Written

@@ -1,7 +1,6 @@
 -- Laws on the loops of the reader over pairs as they stand in words, each literal with its weight behind it.
 -- Assumes nothing.
 use mathlib.Core.Path.{◌≡◌, refl, ap, ◌∙◌}
-use mathlib.Core.Bool.{true, false}
 use mathlib.Core.List.{List, [], ◌∷◌, ◌++◌, map-append, append-nil}
 use Prim.Native.Nat.{ℕ, zero, suc, ◌+◌, ◌*◌, ◌<◌, ◌≤◌}
 use native.Mathlib.Omega.{arith}
@@ -9,12 +8,10 @@ use native.Mathlib.Numerals.{add-one}
 use lib.IntN.{ℤ, pos}
 use lib.ListN.{length, set, take, drop, get_or, length-map}
 use lib.Seq.{drop-length, take-suc, take_all, length-take-le}
-use Rattle.words.specs.Literals.{variable, same}
 use Rattle.words.proofs.Laws.{copy_more}
 use Rattle.weights.specs.Weights.{Weighted, literals, paired, pair_words}
 use Rattle.aspif.specs.Reading.{weight_in}
 use Rattle.aspif.specs.Turns.{weighted}
-use Rattle.weights.proofs.Matching.{pair-on}
 use Rattle.aspif.proofs.PairWords.{length_pairs}
 
 -- The literals of the pairs
@@ -45,15 +42,6 @@ pub literals-all : (ws d : List ℤ) (i : ℕ) → length ws ≡ 2 * length d �
 literals-all ws d i e h =
     let k = literals-many ws (length d) e in
     rw (h, drop-length d, append-nil, take_all (length d) (literals (paired ws)) (omega (arith, k)))
-
--- The weight of a literal
-
-module _ (ws : List ℤ) (i : ℕ) (h : i + 1 < length ws) where
-  pub weight-here : (x : ℤ) → same (get_or ws i (pos 0)) x ≡ true → weight_in (paired (drop i ws)) x ≡ variable (get_or ws (i + 1) (pos 0))
-  weight-here x e = rw (pair-on ws i h, e)
-
-  pub weight-on : (x : ℤ) → same (get_or ws i (pos 0)) x ≡ false → weight_in (paired (drop i ws)) x ≡ weight_in (paired (drop (i + 2) ws)) x
-  weight-on x e = rw (pair-on ws i h, e)
 
 -- Literals with their weights in the pairs
 

@@ -20,21 +20,36 @@ use Rattle.words.specs.Limits.{most_rules}
 use Rattle.aspif.specs.Reading.{RuleRead, fails, reads, Turn, refuses, ends, adds, is_last, shape_within, rule_of, room, turn_within, lines_within, Reading, refused, program, header}
 use Rattle.aspif.proofs.Formed.{onward, lines-on}
 use Rattle.aspif.specs.Turns.{turn_told, free_after, TurnTaken, LinesRead}
-use Rattle.aspif.specs.declared.rules.LineTurn.{LineTurn}
-use Rattle.aspif.specs.declared.rules.LineTurn.TheVariants.{Refuses, Ends, Adds}
-use Rattle.aspif.specs.declared.lines.Lines.TheVariants.{Program, Refused}
+use Rattle.aspif.specs.declared.rules.RuleAdded.{RuleAdded}
+use Rattle.std.specs.Prelude.{Result, Ok, Err, Option, Some, None}
+use Rattle.aspif.specs.declared.ProgramFault.TheVariants.{TooLarge, TooManyRules, TableFull, TextAfterEnd}
+use Rattle.aspif.specs.declared.ProgramFault.{ProgramFault}
+use Rattle.aspif.specs.declared.lines.LinesTaken.{LinesTaken}
+
+abbrev pub taken_of : (atoms rules used : ℕ) → LinesTaken
+taken_of a r u = record { atoms = a; rules = r; used = u }
 
 -- What a turn told says of the turn
 
-told-refuses : (t : Turn) {k : ℕ} → turn_told t ≡ Refuses k → t ≡ refuses k
+told-refuses : (t : Turn) {k : ProgramFault} → turn_told t ≡ Err k → t ≡ refuses k
 told-refuses (refuses j) e = cc
 told-refuses ends e = absurd (let z : ◌≡◌ {A = ℕ} 0 1 = cc in omega arith)
 told-refuses (adds r n) e = absurd (let z : ◌≡◌ {A = ℕ} 0 1 = cc in omega arith)
 
-told-ends : (t : Turn) → turn_told t ≡ Ends → t ≡ ends
+told-ends : (t : Turn) → turn_told t ≡ Ok None → t ≡ ends
 told-ends (refuses j) e = absurd (let z : ◌≡◌ {A = ℕ} 0 1 = cc in omega arith)
 told-ends ends e = refl
 told-ends (adds r n) e = absurd (let z : ◌≡◌ {A = ℕ} 0 1 = cc in omega arith)
+
+-- what stands inside an `Ok`
+pub ok_in : {A E : Type 0} {r : Result A E} {x y : A} → r ≡ Ok x → x ≡ y → r ≡ Ok y
+ok_in e f = e ∙ ap Ok f
+
+-- the rule that a turn told adds
+abbrev rule_in : Result (Option RuleAdded) ProgramFault → RuleAdded
+rule_in (Ok (Some r)) = r
+rule_in (Ok None) = record { next = 0; words = 0; top = 0 }
+rule_in (Err k) = record { next = 0; words = 0; top = 0 }
 
 record Added (t : Turn) (next words top : ℕ) : Type 0 where
   rule : InputRule
@@ -42,10 +57,15 @@ record Added (t : Turn) (next words top : ℕ) : Type 0 where
   size : words ≡ length (rule_words rule)
   most : top ≡ rule_top rule
 
-told-adds : (t : Turn) {next words top : ℕ} → turn_told t ≡ Adds next words top → Added t next words top
+told-adds : (t : Turn) {next words top : ℕ} → turn_told t ≡ Ok (Some (record { next = next; words = words; top = top })) → Added t next words top
 told-adds (refuses j) e = absurd (let z : ◌≡◌ {A = ℕ} 0 1 = cc in omega arith)
 told-adds ends e = absurd (let z : ◌≡◌ {A = ℕ} 0 1 = cc in omega arith)
-told-adds (adds r n) e = record { rule = r; is = cc; size = cc; most = cc }
+told-adds (adds r n) e = record {
+  rule = r;
+  is = ap (λ t. adds r (rule_in t).next) e;
+  size = sym (ap (λ t. (rule_in t).words) e);
+  most = sym (ap (λ t. (rule_in t).top) e);
+}
 
 -- A rule is added only from a line of numbers, where there is room
 
@@ -62,17 +82,17 @@ module _ (rules free left : ℕ) where
   has_room : (zs : List ℤ) (n : ℕ) (x : RuleRead) → Room (numbers zs n) (room rules free x n)
   has_room zs n (fails k) = tt
   has_room zs n (reads r) =
-      by (numbers zs n) (ltb rules most_rules) _ (refuses 9)
+      by (numbers zs n) (ltb rules most_rules) _ (refuses TooManyRules)
       (λ t.
-      by (numbers zs n) (leb (length (rule_words r)) free) (adds r n) (refuses 10)
+      by (numbers zs n) (leb (length (rule_words r)) free) (adds r n) (refuses TableFull)
       (λ u. ((zs, refl), ltb-true rules most_rules t, leb-true (length (rule_words r)) free u)) tt)
       tt
 
   pub turn-room : (most : ℕ) (l : Line) → Room l (turn_within most rules free left l)
   turn-room most broken = tt
   turn-room most (numbers zs n) =
-      by (numbers zs n) (any_outside zs) (refuses 4) _ (λ t. tt)
-      (by (numbers zs n) (is_last zs) _ _ (λ t. by (numbers zs n) (eqb n left) ends (refuses 11) (λ u. tt) tt)
+      by (numbers zs n) (any_outside zs) (refuses TooLarge) _ (λ t. tt)
+      (by (numbers zs n) (is_last zs) _ _ (λ t. by (numbers zs n) (eqb n left) ends (refuses TextAfterEnd) (λ u. tt) tt)
       (has_room zs n (rule_of zs (shape_within most zs (length zs)))))
 
 -- One rule more
@@ -136,7 +156,7 @@ module _ {limit : ℕ} {text : List ℕ} {table₀ table : List ℤ} {at line us
       ∙ lines-on limit (length table₀) turn-left.0 rest line S.so_far
       ∙ ap (λ t. onward (λ n. lines_within limit (length table₀) turn-left.0 (drop n rest) (line + 1)) S.so_far line t) (sym turn_is)
 
-  stands-refuses : (k : ℕ) → turn ≡ refuses k → lines_within limit (length table₀) (suc (length text)) (drop (length header) text) 2 [] ≡ refused k line
+  stands-refuses : (k : ProgramFault) → turn ≡ refuses k → lines_within limit (length table₀) (suc (length text)) (drop (length header) text) 2 [] ≡ refused k line
   stands-refuses k e = turned ∙ rw e
 
   stands-ends : turn ≡ ends → lines_within limit (length table₀) (suc (length text)) (drop (length header) text) 2 [] ≡ program S.so_far
@@ -198,7 +218,7 @@ module _ {limit : ℕ} {text : List ℕ} {table₀ table : List ℤ} {at line us
 -- What the loop does with a turn
 
 module _ {limit : ℕ} {text : List ℕ} {table₀ table : List ℤ} {at line used rules top : ℕ} (S : Standing limit text table₀ table at line used rules top)
-    {ys : List ℤ} {r : LineTurn} (T : TurnTaken (turn S) (free S) ys r) where
+    {ys : List ℤ} {r : Result (Option RuleAdded) ProgramFault} (T : TurnTaken (turn S) (free S) ys r) where
   abbrev after : List ℤ
   after = put_mid used (length table - used) table ys
 
@@ -209,17 +229,17 @@ module _ {limit : ℕ} {text : List ℕ} {table₀ table : List ℤ} {at line us
   same-table : (t : Turn) → turn S ≡ t → free_after t (free S) ≡ free S → after ≡ table
   same-table t e k = ap (put_mid used (length table - used) table) (T.words ∙ ap (λ x. free_after x (free S)) e ∙ k) ∙ stands-table S
 
-  pub lines-refused : {k : ℕ} → r ≡ Refuses k → LinesRead whole table₀ after (Refused (record { number = k; line = line }))
+  pub lines-refused : {k : ProgramFault} → r ≡ Err k → LinesRead whole table₀ after (Err (record { fault = k; line = line }))
   lines-refused {k} e =
       let t = told-refuses (turn S) (sym T.told ∙ e) in
       rw (stands-refuses S k t) (record { told = refl; front = tt; long = ap length (same-table (refuses k) t refl) ∙ S.long })
 
-  pub lines-ended : r ≡ Ends → LinesRead whole table₀ after (Program top rules used)
+  pub lines-ended : r ≡ Ok None → LinesRead whole table₀ after (Ok (taken_of top rules used))
   lines-ended e =
       let t = told-ends (turn S) (sym T.told ∙ e) in
       let a = same-table ends t refl in
-      let told : Program top rules used ≡ Program (atoms S.so_far) (length S.so_far) (length (program_words S.so_far)) =
-      ap₂ (λ x y. Program x y used) S.most S.count ∙ ap (λ x. Program (atoms S.so_far) (length S.so_far) x) S.words in
+      let told : Ok (taken_of top rules used) ≡ Ok (taken_of (atoms S.so_far) (length S.so_far) (length (program_words S.so_far))) =
+      ap₂ (λ x y. Ok (taken_of x y used)) S.most S.count ∙ ap (λ x. Ok (taken_of (atoms S.so_far) (length S.so_far) x)) S.words in
       let front : take (length (program_words S.so_far)) after ≡ program_words S.so_far =
       ap₂ (λ n l. take n l) (sym S.words) a ∙ S.front in
       rw (stands-ends S t) (record { told = told; front = front; long = ap length a ∙ S.long })
@@ -231,7 +251,7 @@ module _ {limit : ℕ} {text : List ℕ} {table₀ table : List ℤ} {at line us
     pub rules-left : rules < most_rules
     pub stands : Standing limit text table₀ after (at + next) (line + 1) (used + words) (rules + 1) (max most top)
 
-  pub lines-added : {next words most : ℕ} → r ≡ Adds next words most → Onward next words most
+  pub lines-added : {next words most : ℕ} → r ≡ Ok (Some (record { next = next; words = words; top = most })) → Onward next words most
   lines-added {next} {words} {most} e =
       let A = told-adds (turn S) (sym T.told ∙ e) in go A.rule A.is A.size A.most
     where

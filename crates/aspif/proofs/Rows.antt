@@ -21,9 +21,10 @@ use Rattle.aspif.specs.Reading.{all_weights, ranged, heads_good, body_good, arra
 use Rattle.aspif.specs.Turns.{row_heads, row_body, row_bound, row_pairs, row_rule, weighted, row_weighed, Sorted, TurnTaken}
 use Rattle.aspif.specs.declared.Kind.{Kind}
 use Rattle.aspif.specs.declared.rules.Shape.TheVariants.{Shaped, Weighed}
-use Rattle.aspif.specs.declared.rules.LineTurn.TheVariants.{Refuses, Adds}
 use Rattle.aspif.proofs.PairWords.{up_to}
 use Rattle.aspif.proofs.Pairs.{literals-many, weighted-words}
+use Rattle.std.specs.Prelude.{Ok, Err, Some}
+use Rattle.aspif.specs.declared.ProgramFault.TheVariants.{WrongLiterals, TooManyRules, TableFull}
 
 pub heads-long : (row : List ℤ) (h : ℕ) → 3 + h ≤ length row → length (row_heads row h) ≡ h
 heads-long row h fits = length-take-le h (drop 3 row) (omega (arith, length-drop 3 row))
@@ -114,33 +115,33 @@ module _ (r : InputRule) (size : ℕ) (is : length (rule_words r) ≡ size) (fre
   abbrev turn : Turn
   turn = room rules (length free) (reads r) next
 
-  pub turn-full : most_rules ≤ rules → TurnTaken turn free free (Refuses 9)
+  pub turn-full : most_rules ≤ rules → TurnTaken turn free free (Err TooManyRules)
   turn-full p = rw (le-ltb rules most_rules p) (record { told = refl; words = refl })
 
-  pub turn-short : rules < most_rules → length free < size → TurnTaken turn free free (Refuses 10)
+  pub turn-short : rules < most_rules → length free < size → TurnTaken turn free free (Err TableFull)
   turn-short p q =
       let e = lt-leb (length (rule_words r)) (length free) (omega (arith, is)) in
       rw (lt-ltb rules most_rules p, e) (record { told = refl; words = refl })
 
   pub turn-adds : rules < most_rules → size ≤ length free → (after : List ℤ) (m : ℕ) → after ≡ rule_words r ++ drop size free → m ≡ rule_top r
-      → TurnTaken turn free after (Adds next size m)
+      → TurnTaken turn free after (Ok (Some (record { next = next; words = size; top = m })))
   turn-adds p q after m w t =
       let e = le-leb (length (rule_words r)) (length free) (omega (arith, is)) in
       rw (lt-ltb rules most_rules p, e)
-      (record { told = sym (ap₂ (λ x y. Adds next x y) is (sym t)); words = w ∙ sym (ap (λ n. rule_words r ++ drop n free) is) })
+      (record { told = sym (ap₂ (λ x y. Ok (Some (record { next = next; words = x; top = y }))) is (sym t)); words = w ∙ sym (ap (λ n. rule_words r ++ drop n free) is) })
 
 module _ (before after : List ℤ) (k : Kind) (h b : ℕ) where
   -- question 8 of a row, by what sorting it told
-  pub sorted-reads : Sorted before after h b true → rule_of before (Shaped k h b) ≡ reads (row_rule after k h b)
+  pub sorted-reads : Sorted before after h b true → rule_of before (Ok (Shaped k h b)) ≡ reads (row_rule after k h b)
   sorted-reads S = rw (sym S.good, S.in_heads, S.in_body)
 
-  pub sorted-fails : Sorted before after h b false → rule_of before (Shaped k h b) ≡ fails 8
+  pub sorted-fails : Sorted before after h b false → rule_of before (Ok (Shaped k h b)) ≡ fails WrongLiterals
   sorted-fails S = rw (sym S.good)
 
 -- Question 8 of a line with a weight body: its heads sorted in place, its literals beside it
 
 pub weighed-fails : (row : List ℤ) (k : Kind) (h b : ℕ) → (heads_good (row_heads row h) && body_good (literals (paired (row_pairs row h b)))) ≡ false
-    → rule_of row (Weighed k h b) ≡ fails 8
+    → rule_of row (Ok (Weighed k h b)) ≡ fails WrongLiterals
 weighed-fails row k h b e = rw e
 
 module _ (row : List ℤ) (k : Kind) (h b : ℕ) (fits : 6 + h + 2 * b ≤ length row) (hs ls : List ℤ)
@@ -173,6 +174,6 @@ module _ (row : List ℤ) (k : Kind) (h b : ℕ) (fits : 6 + h + 2 * b ≤ lengt
   ranged-kept e = rw (literals-long, bound-kept, pairs-kept) e
 
   pub weighed-reads : heads_good (row_heads row h) ≡ true → body_good (literals (paired (row_pairs row h b))) ≡ true
-      → rule_of row (Weighed k h b) ≡ reads (row_weighed after ls k h)
+      → rule_of row (Ok (Weighed k h b)) ≡ reads (row_weighed after ls k h)
   unfolding arranged
   weighed-reads p q = rw (p, q, literals-long, bound-kept, pairs-kept, mid-put 3 h row hs (omega arith) heads-many, eh, el)

@@ -21,10 +21,13 @@ use Rattle.aspif.specs.Rules.{Body, plain, weights, InputRule, is_weight, bound_
 use Rattle.aspif.specs.Reading.{all_weights, ranged, shape_within, heads_good, body_good, arranged, RuleRead, fails, reads, rule_with, rule_of, Turn, refuses, ends, adds, is_last, room, turn_within, lines_within, refused, program, header, read_lines_within, read_text_within, read_text}
 use Rattle.aspif.specs.declared.Kind.{Kind}
 use Rattle.aspif.specs.declared.rules.Shape.{Shape}
-use Rattle.aspif.specs.declared.rules.Shape.TheVariants.{Wrong, Shaped, Weighed}
+use Rattle.aspif.specs.declared.rules.Shape.TheVariants.{Shaped, Weighed}
 use Rattle.aspif.proofs.Counts.{Counted, shape-counted}
 use Rattle.aspif.proofs.PairWords.{length_pairs, length-paired, length-arranged}
 use Rattle.aspif.proofs.Formed.{part_length, onward, words_append}
+use Rattle.std.specs.Prelude.{Result, Ok, Err}
+use Rattle.aspif.specs.declared.ProgramFault.TheVariants.{TooLong, NoHeader}
+use Rattle.aspif.specs.declared.ProgramFault.{ProgramFault}
 
 -- One line
 
@@ -41,15 +44,15 @@ with-fewer k hs ls body n h =
     omega (arith, h, length-append (bound_words body) (ascending hs ++ body_words body), length-append (ascending hs) (body_words body), length-ascending hs))
     (λ e. tt)
 
-rule-fewer : (most : ℕ) (zs : List ℤ) (x : Shape) → Counted most zs (length zs) x → Fewer (length zs) (rule_of zs x)
+rule-fewer : (most : ℕ) (zs : List ℤ) (x : Result Shape ProgramFault) → Counted most zs (length zs) x → Fewer (length zs) (rule_of zs x)
 unfolding ranged
-rule-fewer most zs (Wrong k) c = tt
-rule-fewer most zs (Shaped k h b) c =
+rule-fewer most zs (Err k) c = tt
+rule-fewer most zs (Ok (Shaped k h b)) c =
     let hs = take h (drop 3 zs) in
     let ls = take b (drop (5 + h) zs) in
     with-fewer k hs ls (plain (ascending ls)) (length zs)
     (omega (arith, c.2, part_length h 3 zs (omega (arith, c.2)), length-ascending ls, part_length b (5 + h) zs (omega (arith, c.2))))
-rule-fewer most zs (Weighed k h b) c =
+rule-fewer most zs (Ok (Weighed k h b)) c =
     let hs = take h (drop 3 zs) in
     let ws = take (2 * b) (drop (6 + h) zs) in
     let ps = paired ws in
@@ -112,11 +115,11 @@ module _ (most size : ℕ) where
   unfolding read_text_within read_lines_within
   within-shorter text rs e = by (leb (length text) longest) refl e
     where
-      lines : (b : Bool) → cond b (lines_within most size (suc (length text)) (drop (length header) text) 2 []) (refused 2 1) ≡ program rs → length (program_words rs) ≤ length text
+      lines : (b : Bool) → cond b (lines_within most size (suc (length text)) (drop (length header) text) 2 []) (refused NoHeader 1) ≡ program rs → length (program_words rs) ≤ length text
       lines true p = omega (arith, lines-shorter (suc (length text)) (drop (length header) text) 2 [] rs p, length-drop (length header) text)
       lines false p = absurd (let z : ◌≡◌ {A = ℕ} 0 1 = cc in omega arith)
 
-      by : (b : Bool) → leb (length text) longest ≡ b → cond b (read_lines_within most size text) (refused 1 0) ≡ program rs → length (program_words rs) ≤ longest
+      by : (b : Bool) → leb (length text) longest ≡ b → cond b (read_lines_within most size text) (refused TooLong 0) ≡ program rs → length (program_words rs) ≤ longest
       by true l p = omega (arith, leb-true (length text) longest l, lines (starts_with header text) p)
       by false l p = absurd (let z : ◌≡◌ {A = ℕ} 0 1 = cc in omega arith)
 

@@ -26,10 +26,13 @@ use Rattle.aspif.specs.Reading.{suited, all_weights, ranged, few_within, is_at, 
 use Rattle.aspif.specs.declared.Kind.{Kind}
 use Rattle.aspif.specs.declared.Kind.TheVariants.{Normal, Choice}
 use Rattle.aspif.specs.declared.rules.Shape.{Shape}
-use Rattle.aspif.specs.declared.rules.Shape.TheVariants.{Wrong, Shaped, Weighed}
+use Rattle.aspif.specs.declared.rules.Shape.TheVariants.{Shaped, Weighed}
 use Rattle.aspif.proofs.PairWords.{up_to, words-paired, length-paired}
 use Rattle.aspif.proofs.Formed.{part_length, onward}
 use Rattle.aspif.specs.Text.{rule_numbers, rule_text, rules_text, program_text}
+use Rattle.std.specs.Prelude.{Result, Ok, Err}
+use Rattle.aspif.specs.declared.ProgramFault.TheVariants.{TooLong, NoHeader, WrongKind, WrongCount, UnsuitedHeads, WrongLiterals, WeightOutOfRange, TooManyWeights}
+use Rattle.aspif.specs.declared.ProgramFault.{ProgramFault}
 
 -- Rules put in order
 
@@ -52,17 +55,17 @@ module _ (zs : List ℤ) where
   Spelt (fails k) = Unit {0}
   Spelt (reads s) = (r : InputRule) × (zs ≡ pos 1 ∷ rule_numbers r) × (sorted_rule r ≡ s) × Once r
 
-  abbrev ShapeSpelt : Shape → Type 0
+  abbrev ShapeSpelt : (Result Shape ProgramFault) → Type 0
   ShapeSpelt x = Spelt (rule_of zs x)
 
   -- a shape where a test is passed, and a refusal with the number w where it is not
-  or-wrong : (w : ℕ) (t : Bool) (x : Shape) → (t ≡ true → ShapeSpelt x) → ShapeSpelt (cond t x (Wrong w))
+  or-wrong : (w : ProgramFault) (t : Bool) (x : Result Shape ProgramFault) → (t ≡ true → ShapeSpelt x) → ShapeSpelt (cond t x (Err w))
   or-wrong w t x f = by-test ShapeSpelt t f (λ e. tt)
 
   with-spelt : (r : InputRule) → zs ≡ pos 1 ∷ rule_numbers r → Spelt (rule_with r.kind r.heads (literals_of r.body) (sorted_body r.body))
   with-spelt r q = by (heads_good r.heads) (body_good (literals_of r.body)) refl
     where
-      by : (a b : Bool) → body_good (literals_of r.body) ≡ b → Spelt (cond (a && b) (reads (sorted_rule r)) (fails 8))
+      by : (a b : Bool) → body_good (literals_of r.body) ≡ b → Spelt (cond (a && b) (reads (sorted_rule r)) (fails WrongLiterals))
       by true true e = (r, q, refl, and_right (not (has (pos 0) (literals_of r.body))) (distinct (literals_of r.body)) e)
       by true false e = tt
       by false b e = tt
@@ -92,7 +95,7 @@ module _ (zs : List ℤ) where
         (sym (take-append-drop h (drop 3 zs)) ∙ ap (λ (m : List ℤ). hs ++ m) (drop-drop h 3 zs ∙ e))))
 
     module _ (f : Front) where
-      plain-spelt : (b : ℕ) → get_or zs (3 + h) (pos 0) ≡ pos 0 → get_or zs (4 + h) (pos 0) ≡ pos b → 5 + h + b ≡ length zs → ShapeSpelt (Shaped k h b)
+      plain-spelt : (b : ℕ) → get_or zs (3 + h) (pos 0) ≡ pos 0 → get_or zs (4 + h) (pos 0) ≡ pos b → 5 + h + b ≡ length zs → ShapeSpelt (Ok (Shaped k h b))
       plain-spelt b e c n =
           let ls = take b (drop (5 + h) zs) in
           let all : drop (5 + h) zs ≡ ls = sym (take_all b (drop (5 + h) zs) (omega (arith, length-drop (5 + h) zs))) in
@@ -103,7 +106,7 @@ module _ (zs : List ℤ) where
           (one_on (4 + h) (5 + h) (pos b) c (omega arith) (omega arith) ∙ ap₂ (λ (x : ℕ) (m : List ℤ). pos x ∷ m) (sym many) all) in
           with-spelt (record { kind = k; heads = hs; body = plain ls }) (front-is f (omega arith) (pos 0 ∷ pos (length ls) ∷ ls) back)
 
-      weighed-spelt : (b : ℕ) → get_or zs (3 + h) (pos 0) ≡ pos 1 → get_or zs (5 + h) (pos 0) ≡ pos b → 6 + h + 2 * b ≡ length zs → ranged zs h b ≡ true → ShapeSpelt (Weighed k h b)
+      weighed-spelt : (b : ℕ) → get_or zs (3 + h) (pos 0) ≡ pos 1 → get_or zs (5 + h) (pos 0) ≡ pos b → 6 + h + 2 * b ≡ length zs → ranged zs h b ≡ true → ShapeSpelt (Ok (Weighed k h b))
       unfolding ranged
       weighed-spelt b e c n r =
           let ws = take (2 * b) (drop (6 + h) zs) in
@@ -134,48 +137,48 @@ module _ (zs : List ℤ) where
   n = length zs
 
   module _ (k : Kind) (h : ℕ) (f : Front k h) where
-    suited-spelt : (x : Shape) → ShapeSpelt x → ShapeSpelt (suited k h x)
-    suited-spelt x p = or-wrong 7 (suits k h) x (λ e. p)
+    suited-spelt : (x : Result Shape ProgramFault) → ShapeSpelt x → ShapeSpelt (suited k h x)
+    suited-spelt x p = or-wrong UnsuitedHeads (suits k h) x (λ e. p)
 
     plain-shape : is_at zs n (3 + h) (pos 0) ≡ true → ShapeSpelt (plain_shape zs n k h)
     plain-shape a =
         let b = variable (get_or zs (4 + h) (pos 0)) in
-        or-wrong 6 (is_count_at zs n (4 + h) && eqb (5 + h + b) n) (suited k h (Shaped k h b))
+        or-wrong WrongCount (is_count_at zs n (4 + h) && eqb (5 + h + b) n) (suited k h (Ok (Shaped k h b)))
         (λ e.
-        suited-spelt (Shaped k h b)
+        suited-spelt (Ok (Shaped k h b))
         (plain-spelt k h f b (is-at n (3 + h) (pos 0) a) (is-count n (4 + h) (and_left (is_count_at zs n (4 + h)) _ e))
         (eqb-true (5 + h + b) n (and_right (is_count_at zs n (4 + h)) _ e))))
 
     weighed-shape : (most : ℕ) → is_at zs n (3 + h) (pos 1) ≡ true → ShapeSpelt (weighed_within most zs n k h)
     weighed-shape most a =
         let b = variable (get_or zs (5 + h) (pos 0)) in
-        or-wrong 6 (is_count_at zs n (5 + h) && eqb (6 + h + 2 * b) n) (few_within most zs k h b)
+        or-wrong WrongCount (is_count_at zs n (5 + h) && eqb (6 + h + 2 * b) n) (few_within most zs k h b)
         (λ e.
-        or-wrong 54 (ranged zs h b) (cond (leb b most) (suited k h (Weighed k h b)) (Wrong 55))
+        or-wrong WeightOutOfRange (ranged zs h b) (cond (leb b most) (suited k h (Ok (Weighed k h b))) (Err TooManyWeights))
         (λ r.
-        or-wrong 55 (leb b most) (suited k h (Weighed k h b))
+        or-wrong TooManyWeights (leb b most) (suited k h (Ok (Weighed k h b)))
         (λ l.
-        suited-spelt (Weighed k h b)
+        suited-spelt (Ok (Weighed k h b))
         (weighed-spelt k h f b (is-at n (3 + h) (pos 1) a) (is-count n (5 + h) (and_left (is_count_at zs n (5 + h)) _ e))
         (eqb-true (6 + h + 2 * b) n (and_right (is_count_at zs n (5 + h)) _ e)) r))))
 
     body-shape : (most : ℕ) → ShapeSpelt (body_within most zs n k h)
     body-shape most =
-        by-test ShapeSpelt (is_at zs n (3 + h) (pos 0)) plain-shape (λ e. or-wrong 5 (is_at zs n (3 + h) (pos 1)) (weighed_within most zs n k h) (weighed-shape most))
+        by-test ShapeSpelt (is_at zs n (3 + h) (pos 0)) plain-shape (λ e. or-wrong WrongKind (is_at zs n (3 + h) (pos 1)) (weighed_within most zs n k h) (weighed-shape most))
 
   head-shape : (most : ℕ) (k : Kind) → get_or zs 0 (pos 0) ≡ pos 1 → get_or zs 1 (pos 0) ≡ kind_word k → ShapeSpelt (head_within most zs n k)
   head-shape most k a b =
       let h = variable (get_or zs 2 (pos 0)) in
-      or-wrong 6 (is_count_at zs n 2 && leb (3 + h) n) (body_within most zs n k h)
+      or-wrong WrongCount (is_count_at zs n 2 && leb (3 + h) n) (body_within most zs n k h)
       (λ e. body-shape k h (record { one = a; kind = b; count = is-count n 2 (and_left (is_count_at zs n 2) _ e) }) most)
 
   pub shape-spelt : (most : ℕ) → Spelt (rule_of zs (shape_within most zs (length zs)))
   unfolding shape_within
   shape-spelt most =
-      or-wrong 5 (is_at zs n 0 (pos 1)) (cond (is_at zs n 1 (pos 0)) (head_within most zs n Normal) (cond (is_at zs n 1 (pos 1)) (head_within most zs n Choice) (Wrong 5)))
+      or-wrong WrongKind (is_at zs n 0 (pos 1)) (cond (is_at zs n 1 (pos 0)) (head_within most zs n Normal) (cond (is_at zs n 1 (pos 1)) (head_within most zs n Choice) (Err WrongKind)))
       (λ e.
       by-test ShapeSpelt (is_at zs n 1 (pos 0)) (λ f. head-shape most Normal (is-at n 0 (pos 1) e) (is-at n 1 (pos 0) f))
-      (λ g. or-wrong 5 (is_at zs n 1 (pos 1)) (head_within most zs n Choice) (λ f. head-shape most Choice (is-at n 0 (pos 1) e) (is-at n 1 (pos 1) f))))
+      (λ g. or-wrong WrongKind (is_at zs n 1 (pos 1)) (head_within most zs n Choice) (λ f. head-shape most Choice (is-at n 0 (pos 1) e) (is-at n 1 (pos 1) f))))
 
 -- Lines
 
@@ -295,7 +298,7 @@ module _ (most size : ℕ) (text : List ℕ) (rs : List InputRule) where
   unfolding read_lines_within program_text
   lines_of e = by (starts_with header text) refl e
     where
-      by : (b : Bool) → starts_with header text ≡ b → cond b (lines_within most size (suc (length text)) (drop (length header) text) 2 []) (refused 2 1) ≡ program rs → ReadSpelled text rs
+      by : (b : Bool) → starts_with header text ≡ b → cond b (lines_within most size (suc (length text)) (drop (length header) text) 2 []) (refused NoHeader 1) ≡ program rs → ReadSpelled text rs
       by true p q =
           let l = lines-spelled most size (suc (length text)) (drop (length header) text) 2 [] rs q in
           record { ws = l.ws; is = starts-as header text p ∙ ap (λ (t : List ℕ). header ++ t) l.text; rules = l.rules; once = l.once }
@@ -305,7 +308,7 @@ module _ (most size : ℕ) (text : List ℕ) (rs : List InputRule) where
   unfolding read_text_within
   within-spelled e = by (leb (length text) longest) e
     where
-      by : (b : Bool) → cond b (read_lines_within most size text) (refused 1 0) ≡ program rs → ReadSpelled text rs
+      by : (b : Bool) → cond b (read_lines_within most size text) (refused TooLong 0) ≡ program rs → ReadSpelled text rs
       by true q = lines_of q
       by false q = absurd (zero_one (cc))
 

@@ -1,8 +1,8 @@
 -- The words that the rules of a table take, and words put behind them. Assumes nothing.
 use mathlib.Core.Path.{◌≡◌, refl, sym, ◌∙◌, ap}
 use mathlib.Core.Bool.{true}
-use mathlib.Core.List.{List, ◌++◌, append_assoc}
-use Prim.Native.Nat.{ℕ, ◌+◌, ◌-◌, ◌≤◌, ◌<◌}
+use mathlib.Core.List.{List, ◌∷◌, ◌++◌, append_assoc, map}
+use Prim.Native.Nat.{ℕ, ◌+◌, ◌-◌, ◌≤◌}
 use native.Mathlib.Omega.{arith}
 use borrow.Rule.Slice.PartMut.{put_mid}
 use lib.IntN.{ℤ, pos}
@@ -12,7 +12,7 @@ use Rattle.words.proofs.Laws.{drop-replicate}
 use Rattle.words.proofs.Parts.{put_next}
 use Rattle.aspif.specs.Rules.{rule_words, program_words}
 use Rattle.aspif.specs.Tables.{size_at, rule_at, rules_at, sound_rules, sound_at}
-use Rattle.aspif.proofs.Cursors.{Cursor, at-rule, no-rules, shaped, shape_of}
+use Rattle.aspif.proofs.Cursors.{shaped, shape_of}
 use Rattle.aspif.proofs.Readable.{front-words, rules-words}
 
 -- The words that the rules take
@@ -24,20 +24,16 @@ size-words ws s =
     let f = shaped ws (shape_of ws s) in
     omega (arith, ap length (front-words ws s), length-append (rule_words (rule_at ws)) (drop (size_at ws) ws), length-drop (size_at ws) ws, f.fits)
 
--- the loop of `words_used`: the words up to i, and those of the rules that are left
-abbrev pub Passed : List ℤ → (rules left i : ℕ) → Type 0
-Passed t rules left i = Cursor t left i × (i + length (program_words (rules_at left (drop i t))) ≡ length (program_words (rules_at rules t)))
+-- the loop of `words_used`: so many words are passed, and the rules that begin at `starts` are left
+abbrev pub Passed : List ℤ → (rules used : ℕ) → (starts : List (List ℤ)) → Type 0
+Passed t rules used starts = used + length (program_words (map rule_at starts)) ≡ length (program_words (rules_at rules t))
 
-pub passed_on : {t : List ℤ} (rules : ℕ) {left i : ℕ} → 0 < left → Passed t rules left i → Passed t rules (left - 1) (i + size_at (drop i t))
-passed_on {t} rules {left} {i} h p =
-    let a = at-rule h p.0 in
-    let e = ap (λ rs. length (program_words rs)) a.rules in (
-      a.next,
-      omega (arith, p.1, e, size-words (drop i t) a.sound, length-append (rule_words (rule_at (drop i t))) (program_words (rules_at (left - 1) (drop (i + size_at (drop i t)) t)))),
-    )
-
-pub passed-all : {t : List ℤ} (rules : ℕ) {left i : ℕ} → left ≤ 0 → Passed t rules left i → i ≡ length (program_words (rules_at rules t))
-passed-all {t} rules {left} {i} h p = omega (arith, p.1, ap (λ rs. length (program_words rs)) (no-rules left (drop i t) h))
+-- one rule more is passed
+pub passed_on : (t : List ℤ) (rules used : ℕ) (ws : List ℤ) {starts rest : List (List ℤ)} → starts ≡ ws ∷ rest → sound_at ws ≡ true
+    → Passed t rules used starts → Passed t rules (used + size_at ws) rest
+passed_on t rules used ws {starts} {rest} e s p =
+    let q : used + length (program_words (map rule_at (ws ∷ rest))) ≡ length (program_words (rules_at rules t)) = rw e at p in
+    omega (arith, q, size-words ws s, length-append (rule_words (rule_at ws)) (program_words (map rule_at rest)))
 
 -- they stand at the table's front
 pub used-words : (t : List ℤ) (rules : ℕ) → sound_rules rules t ≡ true → take (length (program_words (rules_at rules t))) t ≡ program_words (rules_at rules t)
@@ -45,6 +41,12 @@ used-words t rules s =
     let w = rules-words rules t s in
     ap (take (length (program_words (rules_at rules t)))) w.1
     ∙ take_at (program_words (rules_at rules t)) (replicate w.0 (pos 0)) (length (program_words (rules_at rules t))) refl
+
+-- and are no more than the table has
+pub used-within : (t : List ℤ) (rules : ℕ) → sound_rules rules t ≡ true → length (program_words (rules_at rules t)) ≤ length t
+used-within t rules s =
+    let w = rules-words rules t s in
+    omega (arith, ap length w.1, length-append (program_words (rules_at rules t)) (replicate w.0 (pos 0)))
 
 -- Words behind them
 

@@ -34,6 +34,8 @@ use Rattle.aspif.specs.Claims.{WeighingWithin, FormedWithin}
 use Rattle.aspif.proofs.Formed.{FitsTable, words_append, lines-on}
 use Rattle.aspif.specs.Text.{body_numbers, rule_numbers, rule_text, rules_text, program_text}
 use Rattle.aspif.proofs.Spelled.{sorted_body, sorted_rule, rule-line, last_line}
+use Rattle.std.specs.Prelude.{Result, Ok}
+use Rattle.aspif.specs.declared.ProgramFault.{ProgramFault}
 
 module _ (k : Kind) (hs back : List ℤ) where
   abbrev zs : List ℤ
@@ -81,7 +83,7 @@ module _ (k : Kind) (hs ls : List ℤ) where
   the-body = rw (back_from k hs after-plain 2 (5 + length hs) (omega arith)) (take-length ls)
 
   plain-is : (most : ℕ) → length ls ≤ most_literals
-      → body_within most plain-line (length plain-line) k (length hs) ≡ suited k (length hs) (Shaped k (length hs) (length ls))
+      → body_within most plain-line (length plain-line) k (length hs) ≡ suited k (length hs) (Ok (Shaped k (length hs) (length ls)))
   plain-is most short =
       let n = count k hs after-plain in
       let e = back_at k hs after-plain 0 (3 + length hs) (omega arith) in
@@ -108,7 +110,7 @@ module _ (k : Kind) (hs : List ℤ) (bound : ℕ) (l : List Weighted) where
     unfolding ranged
     in-range = rw (the_bound, is-up-to most_weight bound f.1, the-pairs) (is_true (light-decides l) f.2)
 
-    weighed-is : length l ≤ most_literals → body_within most weighed-line (length weighed-line) k (length hs) ≡ suited k (length hs) (Weighed k (length hs) (length l))
+    weighed-is : length l ≤ most_literals → body_within most weighed-line (length weighed-line) k (length hs) ≡ suited k (length hs) (Ok (Weighed k (length hs) (length l)))
     weighed-is short =
         let n = count k hs after-weighed in
         let m = length_pairs l in
@@ -145,7 +147,7 @@ body-numbers-in most (weights b l) w f e =
     rw (le-ltb largest b (omega (arith, w.1)), le-ltb largest (length l) (omega (arith, f, length-map l (λ x. x.literal)))) (pairs-in l w.2 e)
 
 -- what suits its kind stays as it is
-suited-is : (k : Kind) (h : ℕ) (x : Shape) → suits k h ≡ true → suited k h x ≡ x
+suited-is : (k : Kind) (h : ℕ) (x : Result Shape ProgramFault) → suits k h ≡ true → suited k h x ≡ x
 suited-is k h x e = rw e
 
 -- A rule that passes questions 4 to 8, 54 and 55, by the reader's tests
@@ -171,14 +173,14 @@ module _ (most : ℕ) (k : Kind) (hs : List ℤ) where
 
   body_back : (body : Body) → PassesWithin most (record { kind = k; heads = hs; body = body }) → Back body
   body_back (plain ls) f =
-      let sh = plain-is k hs ls most f.body-few ∙ suited-is k (length hs) (Shaped k (length hs) (length ls)) f.headed in
+      let sh = plain-is k hs ls most f.body-few ∙ suited-is k (length hs) (Ok (Shaped k (length hs) (length ls))) f.headed in
       ap (rule_of (plain-line k hs ls)) sh
       ∙ ap₂ (λ h l. rule_with k h l (plain (ascending l))) (the-heads k hs (after-plain k hs ls)) (the-body k hs ls)
       ∙ good-is most (record { kind = k; heads = hs; body = plain ls }) f
   body_back (weights b l) f =
       let line = weighed-line k hs b l in
       let bound = get_or line (4 + length hs) (pos 0) in
-      let sh = weighed-is k hs b l most f.weighing (omega (arith, f.body-few, length-map l (λ x. x.literal))) ∙ suited-is k (length hs) (Weighed k (length hs) (length l)) f.headed in
+      let sh = weighed-is k hs b l most f.weighing (omega (arith, f.body-few, length-map l (λ x. x.literal))) ∙ suited-is k (length hs) (Ok (Weighed k (length hs) (length l))) f.headed in
       let e : paired (take (2 * length l) (drop (6 + length hs) line)) ≡ l = ap paired (the-pairs k hs b l) ∙ paired_words l in
       ap (rule_of line) sh
       ∙ ap₂ (λ h p. rule_with k h (literals p) (weights (variable bound) (arranged p))) (the-heads k hs (after-weighed k hs b l)) e

@@ -14,6 +14,7 @@ use Rattle.aspif.specs.Reading.{Reading, refused, program, Turn, turn_within, he
 use Rattle.text.specs.Strings.{starts_with}
 use Rattle.aspif.specs.Reading as Reading
 use Rattle.aspif.specs.Tables.{ReadAs, rules_of}
+use Rattle.aspif.specs.declared.ProgramFault.{ProgramFault}
 
 -- What the lines of a text come to from here on, with no bound on the turns: the bytes that are left, the number of the line that they
 -- begin with, and the rules before it. "The first "no" decides": `refuses` is a line that fails one of questions 3 to 11, 54 and 55, `ends` the
@@ -24,7 +25,7 @@ module _ (most size : ℕ) where
   turn_at s rs = turn_within most (length rs) (size - length (program_words rs)) (length s) (line_of s)
 
   pub data InTurn : List ℕ → (line : ℕ) → List InputRule → Reading → Type 0 where
-    refuses : {s : List ℕ} {line k : ℕ} {rs : List InputRule} → turn_at s rs ≡ Reading.refuses k → InTurn s line rs (refused k line)
+    refuses : {s : List ℕ} {line : ℕ} {k : ProgramFault} {rs : List InputRule} → turn_at s rs ≡ Reading.refuses k → InTurn s line rs (refused k line)
     ends : {s : List ℕ} {line : ℕ} {rs : List InputRule} → turn_at s rs ≡ Reading.ends → InTurn s line rs (program rs)
     adds : {s : List ℕ} {line n : ℕ} {rs : List InputRule} {r : InputRule} {c : Reading} → turn_at s rs ≡ Reading.adds r n
         → InTurn (drop n s) (line + 1) (rs ++ (r ∷ [])) c → InTurn s line rs c

@@ -108,6 +108,11 @@ abbrev pub rules_at : ℕ → List ℤ → List InputRule
 rules_at zero ws = []
 rules_at (suc n) ws = rule_at ws ∷ rules_at n (drop (size_at ws) ws)
 
+-- the words from each of so many rules on, which stand one after another
+abbrev pub starts_at : ℕ → List ℤ → List (List ℤ)
+starts_at zero ws = []
+starts_at (suc n) ws = ws ∷ starts_at n (drop (size_at ws) ws)
+
 -- so many rules stand there, and "All later words are 0."
 abbrev pub sound_rules : ℕ → List ℤ → Bool
 sound_rules zero ws = all (same (pos 0)) ws

@@ -6,9 +6,9 @@ ghost use Rattle.text.specs.Line.{line_of};
 ghost use Rattle.aspif.specs.Reading.{turn_within, lines_within, header};
 ghost use Rattle.aspif.specs.Turns.{TurnTaken, LinesRead};
 
-use crate::rules::LineTurn;
-use crate::{ProgramRefusal, rules};
-use text::LineRead;
+use crate::rules::RuleAdded;
+use crate::{ProgramFault, ProgramRefusal, rules};
+use text::LineNumbers;
 use words::MOST_LITERALS;
 
 // The numbers of the longest rule line: three before the heads, three before the pairs of a weight body, and both parts.
@@ -17,15 +17,12 @@ const ROW: usize = 6 + MOST_LITERALS + 2 * MOST_LITERALS;
 // The bytes of line 1, `asp 1 0 0` and its newline.
 const HEADER: usize = 10;
 
-// What the lines after the first make: the largest atom, the rules and the words that they take in the table; or a refusal.
-#[derive(Drop)]
-pub enum Lines {
-    Program {
-        atoms: usize,
-        rules: usize,
-        used: usize,
-    },
-    Refused(ProgramRefusal),
+// What the lines after the first make: the largest atom, the rules and the words that they take in the table.
+#[derive(Clone, Copy)]
+pub struct LinesTaken {
+    pub atoms: usize,
+    pub rules: usize,
+    pub used: usize,
 }
 
 // The line is `0` alone.
@@ -46,37 +43,40 @@ fn read_rule(
     rules: usize,
     most: usize,
     classes: &[u8; 256],
-) -> LineTurn
+) -> Result<Option<RuleAdded>, ProgramFault>
     requires { classes.now ≡ byte_classes }
     ensures { TurnTaken (turn_within most rules (length free.old) (length rest.now)
         (line_of rest.now)) free.old free.new result }
 {
     let mut row = [0i32; ROW];
-    let read = text::read_line(rest, &mut row, classes);
-    match read {
-        LineRead::Broken => LineTurn::Refuses(3),
-        LineRead::Numbers {
-            count,
-            next,
-            outside,
-            closed: _,
-        } => {
-            if outside {
-                return LineTurn::Refuses(4);
-            }
-            if is_last(&row, count) {
-                if next == rest.len() {
-                    return LineTurn::Ends;
-                }
-                return LineTurn::Refuses(11);
-            }
-            rules::take_rule(free, &mut row, count, next, rules, most)
-        }
+    let Some(line) = text::read_line(rest, &mut row, classes) else {
+        return Err(ProgramFault::Malformed);
+    };
+    let LineNumbers {
+        count,
+        next,
+        outside,
+        ..
+    } = line;
+    if outside {
+        return Err(ProgramFault::TooLarge);
     }
+    if is_last(&row, count) {
+        if next == rest.len() {
+            return Ok(None);
+        }
+        return Err(ProgramFault::TextAfterEnd);
+    }
+    rules::take_rule(free, &mut row, count, next, rules, most)
 }
 
 // The lines after the first, up to the line `0` or the first that is refused.
-pub fn read_lines(text: &[u8], table: &mut [i32], most: usize, classes: &[u8; 256]) -> Lines
+pub fn read_lines(
+    text: &[u8],
+    table: &mut [i32],
+    most: usize,
+    classes: &[u8; 256],
+) -> Result<LinesTaken, ProgramRefusal>
     requires header_in_bounds { length header ≤ length text.now }
     requires classes_value { classes.now ≡ byte_classes }
     ensures { LinesRead (lines_within most (length table.old) (suc (length text.now))
@@ -87,22 +87,18 @@ pub fn read_lines(text: &[u8], table: &mut [i32], most: usize, classes: &[u8; 25
     let mut used = 0;
     let mut rules = 0;
     let mut atoms = 0;
-    loop {
-        let turn = read_rule(&text[at..], &mut table[used..], rules, most, classes);
-        match turn {
-            LineTurn::Refuses(k) => {
-                return Lines::Refused(ProgramRefusal { number: k, line });
-            }
-            LineTurn::Ends => {
-                return Lines::Program { atoms, rules, used };
-            }
-            LineTurn::Adds { next, words, top } => {
-                at += next;
-                line += 1;
-                used += words;
-                rules += 1;
-                atoms = words::larger(top, atoms);
-            }
-        }
+    'lines: loop {
+        let turn = match read_rule(&text[at..], &mut table[used..], rules, most, classes) {
+            Err(fault) => return Err(ProgramRefusal { fault, line }),
+            Ok(turn) => turn,
+        };
+        let Some(added) = turn else {
+            return Ok(LinesTaken { atoms, rules, used });
+        };
+        at += added.next;
+        line += 1;
+        used += added.words;
+        rules += 1;
+        atoms = added.top.max(atoms);
     }
 }

@@ -1,5 +1,5 @@
 // One rule line: its numbers' shape, and its words in the table. Questions 5 to 10, with 54 and 55 of weight bodies between 6 and 7.
-ghost use Rattle.std.specs.Prelude.{◌≡◌, true, [], ◌∷◌, ◌++◌, ◌+◌, ◌*◌, ◌≤◌, leb, pos, length, drop};
+ghost use Rattle.std.specs.Prelude.{◌≡◌, true, [], ◌∷◌, ◌++◌, ◌+◌, ◌*◌, ◌≤◌, leb, pos, length, drop, Ok};
 ghost use Rattle.words.specs.Literals.{ascending};
 ghost use Rattle.weights.specs.Weights.{literals, paired, pair_words};
 ghost use Rattle.aspif.specs.Rules.{kind_word, rule_words};
@@ -9,26 +9,20 @@ ghost use Rattle.aspif.specs.Reading.{body_within, head_within, shape_within, he
 ghost use Rattle.aspif.specs.Turns.{row_size, row_rule, weighted, row_weighed, Sorted, TurnTaken};
 ghost use Rattle.aspif.specs.declared.rules.Shape.TheVariants.{Weighed};
 
-use crate::{Kind, tables};
+use crate::{Kind, ProgramFault, tables};
 use words::{MOST_LITERALS, MOST_RULES};
 
-// What a line makes of the reading: it is refused, it ends the text, or a rule is added.
-#[derive(Drop)]
-pub enum LineTurn {
-    Refuses(u8),
-    Ends,
-    Adds {
-        next: usize,
-        words: usize,
-        top: usize,
-    },
+// A rule that a line adds: the bytes of the line, the words that the rule takes, and the largest atom that it names.
+#[derive(Clone, Copy)]
+pub struct RuleAdded {
+    pub next: usize,
+    pub words: usize,
+    pub top: usize,
 }
 
-// The first of questions 5, 6, 54, 55 and 7 that a line fails; or a rule line's head kind, head count and body count, with literals for
-// its body or with a bound and weights.
-#[derive(Drop)]
+// A rule line's head kind, head count and body count, with literals for its body or with a bound and weights.
+#[derive(Clone, Copy)]
 pub enum Shape {
-    Wrong(u8),
     Shaped {
         kind: Kind,
         heads: usize,
@@ -63,17 +57,17 @@ fn is_count_at(row: &[i32], count: usize, i: usize) -> bool
 }
 
 // Question 7 of a line with that shape otherwise.
-fn suited_shape(kind: Kind, heads: usize, shape: Shape) -> Shape
-    ensures { result ≡ suited kind heads shape }
+fn suited_shape(kind: Kind, heads: usize, shape: Shape) -> Result<Shape, ProgramFault>
+    ensures { result ≡ suited kind heads (Ok shape) }
 {
     if tables::suits_kind(kind, heads) {
-        return shape;
+        return Ok(shape);
     }
-    Shape::Wrong(7)
+    Err(ProgramFault::UnsuitedHeads)
 }
 
 // The body count after body kind 0, matched by what follows.
-fn plain_shape(row: &[i32], count: usize, kind: Kind, heads: usize) -> Shape
+fn plain_shape(row: &[i32], count: usize, kind: Kind, heads: usize) -> Result<Shape, ProgramFault>
     requires { heads ≤ most_literals }
     ensures { result ≡ plain_shape row.now count kind heads }
 {
@@ -83,7 +77,7 @@ fn plain_shape(row: &[i32], count: usize, kind: Kind, heads: usize) -> Shape
             return suited_shape(kind, heads, Shape::Shaped { kind, heads, body });
         }
     }
-    Shape::Wrong(6)
+    Err(ProgramFault::WrongCount)
 }
 
 // Question 54: the bound and the weights of so many literals are 0 to 4,095.
@@ -100,23 +94,35 @@ fn is_ranged(row: &[i32], heads: usize, body: usize) -> bool
 }
 
 // Questions 54, 55 and 7 of a line with a weight body of so many literals, of which 55 takes `most`.
-fn few_shape(row: &[i32], kind: Kind, heads: usize, body: usize, most: usize) -> Shape
+fn few_shape(
+    row: &[i32],
+    kind: Kind,
+    heads: usize,
+    body: usize,
+    most: usize,
+) -> Result<Shape, ProgramFault>
     requires { (heads ≤ most_literals) × (body ≤ most_literals) × (6 + heads + 2 * body ≤ length row.now) }
     ensures { result ≡ few_within most row.now kind heads body }
 {
     let ranged = is_ranged(row, heads, body);
     let few = body <= most;
     if !ranged {
-        return Shape::Wrong(54);
+        return Err(ProgramFault::WeightOutOfRange);
     }
     if !few {
-        return Shape::Wrong(55);
+        return Err(ProgramFault::TooManyWeights);
     }
     suited_shape(kind, heads, Shape::Weighed { kind, heads, body })
 }
 
 // The bound and the body count after body kind 1, with a literal and a weight for each after them.
-fn weighed_shape(row: &[i32], count: usize, kind: Kind, heads: usize, most: usize) -> Shape
+fn weighed_shape(
+    row: &[i32],
+    count: usize,
+    kind: Kind,
+    heads: usize,
+    most: usize,
+) -> Result<Shape, ProgramFault>
     requires { (heads ≤ most_literals) × (length row.now ≡ row_size) }
     ensures { result ≡ weighed_within most row.now count kind heads }
 {
@@ -126,11 +132,17 @@ fn weighed_shape(row: &[i32], count: usize, kind: Kind, heads: usize, most: usiz
             return few_shape(row, kind, heads, body, most);
         }
     }
-    Shape::Wrong(6)
+    Err(ProgramFault::WrongCount)
 }
 
 // The body kind, after the heads, and what goes with it.
-fn body_shape(row: &[i32], count: usize, kind: Kind, heads: usize, most: usize) -> Shape
+fn body_shape(
+    row: &[i32],
+    count: usize,
+    kind: Kind,
+    heads: usize,
+    most: usize,
+) -> Result<Shape, ProgramFault>
     requires { (heads ≤ most_literals) × (length row.now ≡ row_size) }
     ensures { result ≡ body_within most row.now count kind heads }
 {
@@ -140,11 +152,11 @@ fn body_shape(row: &[i32], count: usize, kind: Kind, heads: usize, most: usize) 
     if is_at(row, count, 3 + heads, 1) {
         return weighed_shape(row, count, kind, heads, most);
     }
-    Shape::Wrong(5)
+    Err(ProgramFault::WrongKind)
 }
 
 // The head count, with at least so many numbers after it.
-fn head_shape(row: &[i32], count: usize, kind: Kind, most: usize) -> Shape
+fn head_shape(row: &[i32], count: usize, kind: Kind, most: usize) -> Result<Shape, ProgramFault>
     requires { length row.now ≡ row_size }
     ensures { result ≡ head_within most row.now count kind }
 {
@@ -154,11 +166,11 @@ fn head_shape(row: &[i32], count: usize, kind: Kind, most: usize) -> Shape
             return body_shape(row, count, kind, heads, most);
         }
     }
-    Shape::Wrong(6)
+    Err(ProgramFault::WrongCount)
 }
 
 // Questions 5, 6, 54, 55 and 7 of a line of `count` numbers, of which the row holds the first.
-fn rule_shape(row: &[i32], count: usize, most: usize) -> Shape
+fn rule_shape(row: &[i32], count: usize, most: usize) -> Result<Shape, ProgramFault>
     requires { length row.now ≡ row_size }
     ensures { result ≡ shape_within most row.now count }
 {
@@ -170,7 +182,7 @@ fn rule_shape(row: &[i32], count: usize, most: usize) -> Shape
             return head_shape(row, count, Kind::Choice, most);
         }
     }
-    Shape::Wrong(5)
+    Err(ProgramFault::WrongKind)
 }
 
 // Question 8 of the heads, which ascend afterwards.
@@ -260,17 +272,17 @@ fn add_rule(
     body: usize,
     next: usize,
     rules: usize,
-) -> LineTurn
+) -> Result<Option<RuleAdded>, ProgramFault>
     requires sizes { (heads ≤ most_literals) × (body ≤ most_literals) × (5 + heads + body ≤ length row.now) }
     ensures { TurnTaken (room rules (length free.old)
         (reads (row_rule row.now kind heads body)) next) free.old free.new result }
 {
     if is_full(rules) {
-        return LineTurn::Refuses(9);
+        return Err(ProgramFault::TooManyRules);
     }
     let size = 4 + heads + body;
     if free.len() < size {
-        return LineTurn::Refuses(10);
+        return Err(ProgramFault::TableFull);
     }
     write_rule(free, row, kind, heads, body);
     let after = 3 + heads;
@@ -278,11 +290,11 @@ fn add_rule(
     let end = from + body;
     let a = words::largest_variable(&row[3..after]);
     let b = words::largest_variable(&row[from..end]);
-    LineTurn::Adds {
+    Ok(Some(RuleAdded {
         next,
         words: size,
-        top: words::larger(a, b),
-    }
+        top: a.max(b),
+    }))
 }
 
 // The literals of some pairs, in their order.
@@ -290,10 +302,8 @@ pub fn copy_literals(pairs: &[i32], row: &mut [i32])
     requires { length pairs.now ≡ 2 * length row.old }
     ensures { row.new ≡ literals (paired pairs.now) }
 {
-    let mut i = 0;
-    while i < row.len() {
+    for i in 0..row.len() {
         row[i] = pairs[2 * i];
-        i += 1;
     }
 }
 
@@ -302,12 +312,12 @@ fn weight_in(pairs: &[i32], literal: i32) -> i32
     requires { all_weights pairs.now ≡ true }
     ensures { result ≡ pos (weight_in (paired pairs.now) literal) }
 {
-    let mut i = 0;
-    while i + 1 < pairs.len() {
-        if words::is_same(pairs[i], literal) {
-            return pairs[i + 1];
+    let mut rest = pairs;
+    while let [next, weight, more @ ..] = rest {
+        if words::is_same(*next, literal) {
+            return *weight;
         }
-        i += 2;
+        rest = more;
     }
     0
 }
@@ -319,12 +329,9 @@ pub fn write_pairs(free: &mut [i32], pairs: &[i32], literals: &[i32])
     ensures { free.new ≡ pair_words (weighted pairs.now literals.now)
         ++ drop (2 * length literals.now) free.old }
 {
-    let mut i = 0;
-    while i < literals.len() {
-        let weight = weight_in(pairs, literals[i]);
+    for i in 0..literals.len() {
         free[2 * i] = literals[i];
-        free[2 * i + 1] = weight;
-        i += 1;
+        free[2 * i + 1] = weight_in(pairs, literals[i]);
     }
 }
 
@@ -364,7 +371,7 @@ fn add_weighed(
     heads: usize,
     next: usize,
     rules: usize,
-) -> LineTurn
+) -> Result<Option<RuleAdded>, ProgramFault>
     requires sizes { (heads ≤ most_literals) × (length literals.now ≤ most_literals)
         × (6 + heads + 2 * length literals.now ≤ length row.now) }
     requires weights { ranged row.now heads (length literals.now) ≡ true }
@@ -372,21 +379,21 @@ fn add_weighed(
         (reads (row_weighed row.now literals.now kind heads)) next) free.old free.new result }
 {
     if is_full(rules) {
-        return LineTurn::Refuses(9);
+        return Err(ProgramFault::TooManyRules);
     }
     let size = 5 + heads + 2 * literals.len();
     if free.len() < size {
-        return LineTurn::Refuses(10);
+        return Err(ProgramFault::TableFull);
     }
     write_weighed(free, row, literals, kind, heads);
     let after = 3 + heads;
     let a = words::largest_variable(&row[3..after]);
     let b = words::largest_variable(literals);
-    LineTurn::Adds {
+    Ok(Some(RuleAdded {
         next,
         words: size,
-        top: words::larger(a, b),
-    }
+        top: a.max(b),
+    }))
 }
 
 // Questions 8 to 10 of a line with a weight body, whose literals are put beside the row and sorted there.
@@ -398,12 +405,12 @@ fn take_pairs(
     heads: usize,
     next: usize,
     rules: usize,
-) -> LineTurn
+) -> Result<Option<RuleAdded>, ProgramFault>
     requires sizes { (heads ≤ most_literals) × (length literals.old ≤ most_literals)
         × (6 + heads + 2 * length literals.old ≤ length row.old) }
     requires weights { ranged row.old heads (length literals.old) ≡ true }
     ensures { TurnTaken (room rules (length free.old)
-        (rule_of row.old (Weighed kind heads (length literals.old))) next)
+        (rule_of row.old (Ok (Weighed kind heads (length literals.old)))) next)
         free.old free.new result }
 {
     let after = 3 + heads;
@@ -416,7 +423,7 @@ fn take_pairs(
             return add_weighed(free, row, literals, kind, heads, next, rules);
         }
     }
-    LineTurn::Refuses(8)
+    Err(ProgramFault::WrongLiterals)
 }
 
 // Questions 8 to 10 of a line with a weight body of so many literals.
@@ -428,10 +435,10 @@ fn take_weighed(
     body: usize,
     next: usize,
     rules: usize,
-) -> LineTurn
+) -> Result<Option<RuleAdded>, ProgramFault>
     requires sizes { (heads ≤ most_literals) × (body ≤ most_literals) × (6 + heads + 2 * body ≤ length row.old) }
     requires weights { ranged row.old heads body ≡ true }
-    ensures { TurnTaken (room rules (length free.old) (rule_of row.old (Weighed kind heads body)) next)
+    ensures { TurnTaken (room rules (length free.old) (rule_of row.old (Ok (Weighed kind heads body))) next)
         free.old free.new result }
 {
     let mut literals = [0i32; MOST_LITERALS];
@@ -446,18 +453,17 @@ pub fn take_rule(
     next: usize,
     rules: usize,
     most: usize,
-) -> LineTurn
+) -> Result<Option<RuleAdded>, ProgramFault>
     requires { length row.old ≡ row_size }
     ensures { TurnTaken (room rules (length free.old)
         (rule_of row.old (shape_within most row.old count)) next) free.old free.new result }
 {
-    match rule_shape(row, count, most) {
-        Shape::Wrong(k) => LineTurn::Refuses(k),
+    match rule_shape(row, count, most)? {
         Shape::Shaped { kind, heads, body } => {
             if sort_parts(row, heads, body) {
                 return add_rule(free, row, kind, heads, body, next, rules);
             }
-            LineTurn::Refuses(8)
+            Err(ProgramFault::WrongLiterals)
         }
         Shape::Weighed { kind, heads, body } => {
             take_weighed(free, row, kind, heads, body, next, rules)

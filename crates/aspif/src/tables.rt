@@ -6,7 +6,8 @@ ghost use Rattle.words.specs.Literals.{variable, same, top};
 ghost use Rattle.weights.specs.Weights.{literals, paired};
 ghost use Rattle.aspif.specs.Rules.{literals_of, all_plain, suits, is_count, is_weight, rule_top, atoms, program_words};
 ghost use Rattle.aspif.specs.Reading.{all_weights};
-ghost use Rattle.aspif.specs.Tables.{kind_of, is_kind, is_weighted, head_start, body_length, is_headed, size_at, heads_at, body_words_at};
+ghost use Rattle.std.specs.Iterator.{YieldsFirstBy, item_count};
+ghost use Rattle.aspif.specs.Tables.{starts_at, kind_of, is_kind, is_weighted, head_start, body_length, is_headed, size_at, heads_at, body_words_at};
 ghost use Rattle.aspif.specs.Tables.{bound_at, body_at, rule_at, shape_sound, weights_sound, body_sound, sound_at, rules_at, sound_rules, sound_table};
 
 use crate::Kind;
@@ -27,11 +28,7 @@ pub fn is_count(words: &[i32], i: usize) -> bool
     ensures { result ≡ is_count (get_or words.now i (pos 0)) }
 {
     let word = words::word_at(words, i);
-    if 0 <= word {
-        words::variable_of(word) <= words::MOST_LITERALS
-    } else {
-        false
-    }
+    0 <= word && words::variable_of(word) <= words::MOST_LITERALS
 }
 
 // Question 7: the head count suits the kind.
@@ -131,6 +128,102 @@ pub fn rule_size(words: &[i32]) -> usize
     head_start(words) + words::variable_of(words[1]) + body_length(words)
 }
 
+// A rule of a table, as the words from its first on.
+#[derive(Clone, Copy)]
+pub struct Rule<'a> {
+    pub words: &'a [i32],
+    ghost sound: { sound_at words.now ≡ true },
+}
+
+// The rules of a table that are left, one after another.
+#[derive(Drop)]
+pub struct Rules<'a> {
+    pub words: &'a [i32],
+    pub left: usize,
+    ghost sound: { sound_rules left words.now ≡ true },
+}
+
+impl<'a> Rule<'a> {
+    // The largest atom that the rule names.
+    #[tactic(auto, using(crate::proofs::Cursors::shape_of))]
+    pub fn top(&self) -> usize
+        ensures { result ≡ rule_top (rule_at self.now.words.now) }
+    {
+        rule_top(self.words)
+    }
+
+    // How many words the rule takes.
+    #[tactic(auto, using(crate::proofs::Cursors::shape_of))]
+    pub fn size(&self) -> usize
+        ensures size { (result ≡ size_at self.now.words.now) × (result ≤ length self.now.words.now) }
+    {
+        rule_size(self.words)
+    }
+
+    pub fn is_weighted(&self) -> bool
+        ensures { result ≡ is_weighted self.now.words.now }
+    {
+        is_weighted(self.words)
+    }
+
+    pub fn kind(&self) -> Kind
+        ensures { result ≡ kind_of (get_or self.now.words.now 0 (pos 0)) }
+    {
+        kind_of(self.words)
+    }
+
+    #[tactic(auto, using(crate::proofs::Cursors::shape_of))]
+    pub fn heads(&self) -> &'a [i32]
+        ensures { result.now ≡ heads_at self.now.words.now }
+    {
+        heads_of(self.words)
+    }
+
+    // The words of the body: its literals, with a weight body each with its weight behind it.
+    #[tactic(auto, using(crate::proofs::Cursors::shape_of))]
+    pub fn body(&self) -> &'a [i32]
+        ensures { result.now ≡ body_words_at self.now.words.now }
+    {
+        body_of(self.words)
+    }
+
+    // The bound, where it has a weight body.
+    pub fn bound(&self) -> usize
+        ensures { result ≡ bound_at self.now.words.now }
+    {
+        bound_of(self.words)
+    }
+}
+
+// The rules of a table.
+pub fn rules_in<'a>(table: &'a [i32], rules: usize) -> Rules<'a>
+    requires { sound_rules rules table.now ≡ true }
+    ensures start { (result.words ≡ table.entry) × (result.left ≡ rules) }
+{
+    Rules {
+        words: table,
+        left: rules,
+    }
+}
+
+impl<'a> Iterator for Rules<'a> {
+    type Item = Rule<'a>;
+
+    ghost next_gives = { YieldsFirstBy (λ rule. rule.words.now) (λ s. starts_at s.left s.words.now) };
+
+    ghost remaining = { item_count (λ s. starts_at s.left s.words.now) };
+
+    fn next(&mut self) -> Option<Rule<'a>> {
+        if self.left == 0 {
+            return None;
+        }
+        let words = self.words;
+        self.words = &words[rule_size(words)..];
+        self.left -= 1;
+        Some(Rule { words })
+    }
+}
+
 // Where the rule after the one at i begins: how a loop over the table goes on.
 pub fn next_rule(table: &[i32], i: usize) -> usize
     requires here { (i ≤ length table.now) × (shape_sound (drop i table.now) ≡ true) }
@@ -181,14 +274,14 @@ pub fn is_weight(word: i32) -> bool
 pub fn all_weights(pairs: &[i32]) -> bool
     ensures { result ≡ all_weights pairs.now }
 {
-    let mut i = 0;
-    while i + 1 < pairs.len() {
-        if !is_weight(pairs[i + 1]) {
+    let mut rest = pairs;
+    while let [_, weight, more @ ..] = rest {
+        if !is_weight(*weight) {
             return false;
         }
-        i += 2;
+        rest = more;
     }
-    i == pairs.len()
+    rest.is_empty()
 }
 
 // The words ascend by variable, from 1 to the largest.
@@ -196,14 +289,9 @@ fn ascends_by_variable(words: &[i32]) -> bool
     ensures { result ≡ ascends 0 largest (map variable words.now) }
 {
     let mut low = 0;
-    let mut i = 0;
-    while i < words.len() {
-        let v = words::variable_of(words[i]);
-        i += 1;
-        if v <= low {
-            return false;
-        }
-        if words::LARGEST < v {
+    for word in words {
+        let v = words::variable_of(*word);
+        if v <= low || words::LARGEST < v {
             return false;
         }
         low = v;
@@ -216,17 +304,14 @@ fn pairs_ascend(pairs: &[i32]) -> bool
     ensures { result ≡ ascends 0 largest (map variable (literals (paired pairs.now))) }
 {
     let mut low = 0;
-    let mut i = 0;
-    while i + 1 < pairs.len() {
-        let v = words::variable_of(pairs[i]);
-        i += 2;
-        if v <= low {
-            return false;
-        }
-        if words::LARGEST < v {
+    let mut rest = pairs;
+    while let [literal, _, more @ ..] = rest {
+        let v = words::variable_of(*literal);
+        if v <= low || words::LARGEST < v {
             return false;
         }
         low = v;
+        rest = more;
     }
     true
 }
@@ -235,15 +320,7 @@ fn pairs_ascend(pairs: &[i32]) -> bool
 fn all_zero(words: &[i32]) -> bool
     ensures { result ≡ all (same (pos 0)) words.now }
 {
-    let mut i = 0;
-    while i < words.len() {
-        if words::is_same(0, words[i]) {
-            i += 1;
-        } else {
-            return false;
-        }
-    }
-    true
+    words.iter().all(|word| words::is_same(0, *word))
 }
 
 // The weight body at the front is one that the reader leaves: at most 12 pairs, bound and weights 0 to 4,095, literals ascending.
@@ -297,17 +374,14 @@ pub fn is_readable(table: &[i32], rules: usize) -> bool
     if words::MOST_RULES < rules {
         return false;
     }
-    let mut left = rules;
-    let mut i = 0;
-    while 0 < left {
-        let rest = &table[i..];
+    let mut rest = table;
+    for _ in 0..rules {
         if !is_sound(rest) {
             return false;
         }
-        i = next_rule(table, i);
-        left -= 1;
+        rest = &rest[rule_size(rest)..];
     }
-    all_zero(&table[i..])
+    all_zero(rest)
 }
 
 // The largest variable of the literals of some pairs.
@@ -315,10 +389,10 @@ fn pairs_top(pairs: &[i32]) -> usize
     ensures { result ≡ top (literals (paired pairs.now)) }
 {
     let mut most = 0;
-    let mut i = 0;
-    while i + 1 < pairs.len() {
-        most = words::larger(most, words::variable_of(pairs[i]));
-        i += 2;
+    let mut rest = pairs;
+    while let [literal, _, more @ ..] = rest {
+        most = most.max(words::variable_of(*literal));
+        rest = more;
     }
     most
 }
@@ -340,56 +414,47 @@ pub fn rule_top(words: &[i32]) -> usize
     ensures { result ≡ rule_top (rule_at words.now) }
 {
     let heads = words::largest_variable(heads_of(words));
-    words::larger(heads, body_top(words))
+    heads.max(body_top(words))
 }
 
 // N: the largest atom named, 0 if none.
+#[tactic(auto, using(crate::proofs::Cursors::rules_from_starts))]
 pub fn largest_atom(table: &[i32], rules: usize) -> usize
     requires { sound_rules rules table.now ≡ true }
     ensures { result ≡ atoms (rules_at rules table.now) }
 {
     let mut most = 0;
-    let mut left = rules;
-    let mut i = 0;
-    while 0 < left {
-        let rest = &table[i..];
-        most = words::larger(most, rule_top(rest));
-        i = next_rule(table, i);
-        left -= 1;
+    for rule in rules_in(table, rules) {
+        most = most.max(rule.top());
     }
     most
 }
 
 // No rule of the table has a weight body.
+#[tactic(auto, using(crate::proofs::Cursors::rules_from_starts, crate::proofs::Cursors::plain_at))]
 pub fn all_plain(table: &[i32], rules: usize) -> bool
     requires { sound_rules rules table.now ≡ true }
     ensures { result ≡ all_plain (rules_at rules table.now) }
 {
-    let mut left = rules;
-    let mut i = 0;
-    while 0 < left {
-        let rest = &table[i..];
-        if is_weighted(rest) {
+    for rule in rules_in(table, rules) {
+        if rule.is_weighted() {
             return false;
         }
-        i = next_rule(table, i);
-        left -= 1;
     }
     true
 }
 
 // How many words of the table the rules take.
+#[tactic(auto, using(crate::proofs::Cursors::rules_from_starts))]
 pub fn words_used(table: &[i32], rules: usize) -> usize
     requires { sound_rules rules table.now ≡ true }
     ensures used { (result ≡ length (program_words (rules_at rules table.now))) × (result ≤ length table.now) }
 {
-    let mut left = rules;
-    let mut i = 0;
-    while 0 < left {
-        i = next_rule(table, i);
-        left -= 1;
+    let mut used = 0;
+    for rule in rules_in(table, rules) {
+        used += rule.size();
     }
-    i
+    used
 }
 
 // The rules in a wider table that is 0 throughout, and behind them the words of one rule more.

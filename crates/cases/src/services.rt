@@ -41,7 +41,7 @@ fn trim_proof(
     output: &mut [u8],
     answer: &mut [u64],
 ) -> u32 {
-    words::zero_bytes(output);
+    words::zero_all(output);
     reading::push_all(output, 0, proof);
     exports::aspdrupe_trim_proof(program, output, table, store, answer)
 }

@@ -32,11 +32,14 @@ use Rattle.costs.specs.Costs.{Cost, costs_of, good_costs, total, restricted}
 use Rattle.costs.proofs.Sums.{cost-listed, cost-reordered}
 use Rattle.costs.proofs.Order.{restriction-reordered}
 use Rattle.costs.proofs.NoneBelow.{none_below, none-below-with}
-use Rattle.cheapest.specs.Service.{is_yes, restricted_course, CheapestLeft, leaves_nothing, passing, judged_proof, with_proof, with_cost, with_costs, cheapest_reading, cheapest}
+use Rattle.cheapest.specs.Service.{CheapestAnswer, is_yes, restricted_course, CheapestLeft, leaves_nothing, passing, judged_proof, with_proof, with_cost, with_costs, cheapest_reading, cheapest}
 use Rattle.cheapest.specs.Claims.{NoCheaper, NoneCheaper, ServiceNoneCheaper, CheapestReordered}
-use Rattle.cheapest.specs.declared.CheapestAnswer.{CheapestAnswer}
-use Rattle.cheapest.specs.declared.CheapestAnswer.TheVariants.{Cheapest, Refused}
 use Rattle.cheapest.proofs.Words.{good-distinct}
+use Rattle.aspif.specs.declared.Refusal.{Refusal}
+use Rattle.aspif.specs.declared.Refusal.TheVariants.{Service}
+use Rattle.cheapest.specs.declared.CheapestFault.{CheapestFault}
+use Rattle.cheapest.specs.declared.CheapestFault.TheVariants.{WrongSet, WrongCosts, NotCertified}
+use Rattle.std.specs.Prelude.{Ok, Err}
 
 -- What a passing outcome tells
 
@@ -52,28 +55,28 @@ pub record Passes (set : List ℕ) (costs : List ℤ) (C : ℕ) (r : Reading) : 
   pub none : ¬ (C ≡ 0) → NoneAsWritten (restricted ws ks C)
 
 module _ (t s : ℕ) (set : List ℕ) (costs : List ℤ) (proof : List ℕ) (C : ℕ) where
-  refusal : (k : ℕ) → ◌≡◌ {A = CheapestAnswer} (Refused k) (Cheapest C) → ⊥
-  refusal k e = zero_one (cc)
+  refusal : (r : Refusal CheapestFault) → ◌≡◌ {A = CheapestAnswer} (Err r) (Ok C) → ⊥
+  refusal r e = zero_one (cc)
 
   judged-passes : (ws : List InputRule) (ks : List Cost) (D : ℕ) (o : Course)
-      → restricted_course s ws ks D proof ≡ o → (judged_proof t s ws D o).answer ≡ Cheapest C
+      → restricted_course s ws ks D proof ≡ o → (judged_proof t s ws D o).answer ≡ Ok C
       → (D ≡ C) × NoneAsWritten (restricted ws ks D)
-  judged-passes ws ks D (stopped k n) q e = absurd (refusal 63 e)
+  judged-passes ws ks D (stopped k n) q e = absurd (refusal _ e)
   judged-passes ws ks D (through n z b) q e = by (empty_live z) refl e
     where
-      by : (l : Bool) → empty_live z ≡ l → (cond l (passing t s ws D (store_words s b)) (leaves_nothing t s (Refused 63))).answer ≡ Cheapest C
+      by : (l : Bool) → empty_live z ≡ l → (cond l (passing t s ws D (store_words s b)) (leaves_nothing t s (Err (Service NotCertified)))).answer ≡ Ok C
           → (D ≡ C) × NoneAsWritten (restricted ws ks D)
       by true l e = (cc, accepted-none s (restricted ws ks D) proof (ap ends_empty q ∙ l))
-      by false l e = absurd (refusal 63 e)
+      by false l e = absurd (refusal _ e)
 
-  proof-passes : (ws : List InputRule) (ks : List Cost) (D : ℕ) → (with_proof t s ws ks D proof).answer ≡ Cheapest C
+  proof-passes : (ws : List InputRule) (ks : List Cost) (D : ℕ) → (with_proof t s ws ks D proof).answer ≡ Ok C
       → (C ≡ D) × (¬ (C ≡ 0) → NoneAsWritten (restricted ws ks C))
   proof-passes ws ks D e = by (eqb D 0) refl e
     where
       o : Course
       o = restricted_course s ws ks D proof
 
-      by : (z : Bool) → eqb D 0 ≡ z → (cond z (passing t s ws 0 (replicate s (pos 0))) (judged_proof t s ws D o)).answer ≡ Cheapest C
+      by : (z : Bool) → eqb D 0 ≡ z → (cond z (passing t s ws 0 (replicate s (pos 0))) (judged_proof t s ws D o)).answer ≡ Ok C
           → (C ≡ D) × (¬ (C ≡ 0) → NoneAsWritten (restricted ws ks C))
       by true q e = let c : 0 ≡ C = cc in (sym c ∙ sym (eqb-true D 0 q), λ n. absurd (n (sym c)))
       by false q e =
@@ -85,13 +88,13 @@ module _ (t s : ℕ) (set : List ℕ) (costs : List ℤ) (proof : List ℕ) (C :
   is-yes (differs v) e = absurd (true≢false (sym e))
   is-yes (breaks k) e = absurd (true≢false (sym e))
 
-  passes : (r : Reading) → (cheapest_reading t s set costs proof r).answer ≡ Cheapest C → Passes set costs C r
+  passes : (r : Reading) → (cheapest_reading t s set costs proof r).answer ≡ Ok C → Passes set costs C r
   passes (Reading.refused k n) e = absurd (zero_one (cc))
   passes (program ws) e = in_order (ascends 0 (atoms ws) set) refl e
     where
       with-cost : (ks : List Cost) → costs_of costs ≡ some ks → ascends 0 (atoms ws) set ≡ true → good_costs (atoms ws) ks ≡ true
           → (a : Bool) → (b : Bool) → is_yes (verdict_of (listed set) ws) ≡ b
-          → (cond a (cond b (with_proof t s ws ks (total (listed set) ks) proof) (leaves_nothing t s (Refused 63))) (leaves_nothing t s (Refused 62))).answer ≡ Cheapest C
+          → (cond a (cond b (with_proof t s ws ks (total (listed set) ks) proof) (leaves_nothing t s (Err (Service NotCertified)))) (leaves_nothing t s (Err (Service WrongCosts)))).answer ≡ Ok C
           → Passes set costs C (program ws)
       with-cost ks l u g true true y e =
           let p = proof-passes ws ks (total (listed set) ks) e in
@@ -106,23 +109,23 @@ module _ (t s : ℕ) (set : List ℕ) (costs : List ℤ) (proof : List ℕ) (C :
             cost = p.0;
             none = p.1;
           }
-      with-cost ks l u g true false y e = absurd (refusal 63 e)
-      with-cost ks l u g false b y e = absurd (refusal 62 e)
+      with-cost ks l u g true false y e = absurd (refusal _ e)
+      with-cost ks l u g false b y e = absurd (refusal _ e)
 
-      with-costs : ascends 0 (atoms ws) set ≡ true → (o : Option (List Cost)) → costs_of costs ≡ o → (with_costs t s ws set o proof).answer ≡ Cheapest C
+      with-costs : ascends 0 (atoms ws) set ≡ true → (o : Option (List Cost)) → costs_of costs ≡ o → (with_costs t s ws set o proof).answer ≡ Ok C
           → Passes set costs C (program ws)
-      with-costs u none l e = absurd (refusal 62 e)
+      with-costs u none l e = absurd (refusal _ e)
       with-costs u (some ks) l e = by (good_costs (atoms ws) ks) refl e
         where
-          by : (g : Bool) → good_costs (atoms ws) ks ≡ g → (cond g (with_cost t s ws set ks (total (listed set) ks) proof) (leaves_nothing t s (Refused 62))).answer ≡ Cheapest C
+          by : (g : Bool) → good_costs (atoms ws) ks ≡ g → (cond g (with_cost t s ws set ks (total (listed set) ks) proof) (leaves_nothing t s (Err (Service WrongCosts)))).answer ≡ Ok C
               → Passes set costs C (program ws)
           by true g e = with-cost ks l u g (leb (total (listed set) ks) most_weight) (is_yes (verdict_of (listed set) ws)) refl e
-          by false g e = absurd (refusal 62 e)
+          by false g e = absurd (refusal _ e)
 
-      in_order : (a : Bool) → ascends 0 (atoms ws) set ≡ a → (cond a (with_costs t s ws set (costs_of costs) proof) (leaves_nothing t s (Refused 42))).answer ≡ Cheapest C
+      in_order : (a : Bool) → ascends 0 (atoms ws) set ≡ a → (cond a (with_costs t s ws set (costs_of costs) proof) (leaves_nothing t s (Err (Service WrongSet)))).answer ≡ Ok C
           → Passes set costs C (program ws)
       in_order true u e = with-costs u (costs_of costs) refl e
-      in_order false u e = absurd (refusal 42 e)
+      in_order false u e = absurd (refusal _ e)
 
 no-cheaper : (t : ℕ) (text set : List ℕ) (costs : List ℤ) (C : ℕ) (p : Passes set costs C (read_text t text)) → NoCheaper p.ws p.ks set C
 no-cheaper t text set costs C p =
@@ -174,11 +177,11 @@ cheapest-reordered t s text set costs costs' proof ks js p q r = by (read_text t
         (restriction-reordered ks js D d r)
 
     good : (ws : List InputRule) (g : Bool) → good_costs (atoms ws) ks ≡ g
-        → cond g (with_cost t s ws set ks (total (listed set) ks) proof) (leaves_nothing t s (Refused 62))
-        ≡ cond g (with_cost t s ws set js (total (listed set) js) proof) (leaves_nothing t s (Refused 62))
+        → cond g (with_cost t s ws set ks (total (listed set) ks) proof) (leaves_nothing t s (Err (Service WrongCosts)))
+        ≡ cond g (with_cost t s ws set js (total (listed set) js) proof) (leaves_nothing t s (Err (Service WrongCosts)))
     good ws true g =
         rw (← total-reordered r set)
-        (ap (λ (x : CheapestLeft). cond (leb (total (listed set) ks) most_weight) (cond (is_yes (verdict_of (listed set) ws)) x (leaves_nothing t s (Refused 63))) (leaves_nothing t s (Refused 62)))
+        (ap (λ (x : CheapestLeft). cond (leb (total (listed set) ks) most_weight) (cond (is_yes (verdict_of (listed set) ws)) x (leaves_nothing t s (Err (Service NotCertified)))) (leaves_nothing t s (Err (Service WrongCosts))))
         (proofs ws (good-distinct (atoms ws) ks g) (total (listed set) ks)))
     good ws false g = refl
 
@@ -186,4 +189,4 @@ cheapest-reordered t s text set costs costs' proof ks js p q r = by (read_text t
     by (Reading.refused k n) = refl
     by (program ws) =
         rw (p, q, ← good-reordered r (atoms ws))
-        (ap (λ (x : CheapestLeft). cond (ascends 0 (atoms ws) set) x (leaves_nothing t s (Refused 42))) (good ws (good_costs (atoms ws) ks) refl))
+        (ap (λ (x : CheapestLeft). cond (ascends 0 (atoms ws) set) x (leaves_nothing t s (Err (Service WrongSet)))) (good ws (good_costs (atoms ws) ks) refl))

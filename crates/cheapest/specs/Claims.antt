@@ -1,6 +1,6 @@
 -- What is claimed of the service; proofs/Verdicts.antt proves it.
 -- Assumes nothing.
-use Rattle.std.specs.Prelude.{◌≡◌, List, ◌++◌, ℕ, ◌≤◌, ℤ, length}
+use Rattle.std.specs.Prelude.{◌≡◌, Ok, List, ◌++◌, ℕ, ◌≤◌, ℤ, length}
 use Rattle.std.proofs.Math.Option.{some}
 use Rattle.words.specs.Lists.{◌∈◌}
 use Rattle.weights.specs.Claims.{Reorder}
@@ -11,7 +11,6 @@ use Rattle.answer_set.specs.Claims.{Listed}
 use Rattle.derivation.specs.Claims.{WrittenConstraint}
 use Rattle.costs.specs.Costs.{Cost, costs_of, Costs}
 use Rattle.cheapest.specs.Service.{cheapest, CheckedCheapest}
-use Rattle.cheapest.specs.declared.CheapestAnswer.TheVariants.{Cheapest}
 
 -- "the set is an answer set and .. no answer set costs less than C": nor does one of the program with any further constraints. A set is
 -- any predicate on numbers.
@@ -25,14 +24,14 @@ pub record NoCheaper (ws : List InputRule) (ks : List Cost) (l : List ℕ) (C : 
 -- "A passing verdict returns C and means that ..": of the program that was read and the costs that were lent
 abbrev pub NoneCheaper : Type 1
 NoneCheaper =
-    (t s : ℕ) (text set : List ℕ) (costs : List ℤ) (proof : List ℕ) (C : ℕ) → (cheapest t s text set costs proof).answer ≡ Cheapest C
+    (t s : ℕ) (text set : List ℕ) (costs : List ℤ) (proof : List ℕ) (C : ℕ) → (cheapest t s text set costs proof).answer ≡ Ok C
     → (ws : List InputRule) × (ks : List Cost) × (read_text t text ≡ program ws) × (costs_of costs ≡ some ks) × NoCheaper ws ks set C
 
 -- the same of the service, by its contract, whatever it is lent
 abbrev pub ServiceNoneCheaper : Type 1
 ServiceNoneCheaper =
     (text set : List ℕ) (costs : List ℤ) (proof : List ℕ) (table store table' store' : List ℤ) (C : ℕ)
-    → CheckedCheapest text set costs proof table store table' store' (Cheapest C)
+    → CheckedCheapest text set costs proof table store table' store' (Ok C)
     → (ws : List InputRule) × (ks : List Cost) × (read_text (length table) text ≡ program ws) × (costs_of costs ≡ some ks)
     × NoCheaper ws ks set C
 

@@ -1,10 +1,9 @@
 -- Worked cases of specs/OneRateVerdicts.antt, with program B and proof Q of specs/Examples.antt; proofs/OneRateExamples.antt computes them.
 -- Assumes nothing.
-use Rattle.std.specs.Prelude.{◌≡◌, List, [], ◌∷◌, ℕ, pos}
+use Rattle.std.specs.Prelude.{◌≡◌, Ok, List, [], ◌∷◌, ℕ, pos}
 use Rattle.costs.specs.Costs.{Cost}
 use Rattle.costs.specs.OneRate.{Differ}
-use Rattle.cheapest.specs.declared.CheapestAnswer.{CheapestAnswer}
-use Rattle.cheapest.specs.declared.CheapestAnswer.TheVariants.{Cheapest}
+use Rattle.cheapest.specs.Service.{CheapestAnswer}
 use Rattle.cheapest.specs.Examples.{answer_b, proof_q}
 
 -- what the service answers of a set that holds the one atom, where 1 costs w and 2 costs u
@@ -17,8 +16,8 @@ list_of w u = record { literal = pos 1; weight = w } ∷ record { literal = pos 
 -- two calls that pass under lists that differ by D, with their totals
 pub record Moves (v w u v' w' u' D C E : ℕ) : Type 0 where
   pub differ : Differ (list_of w u) (list_of w' u') D
-  pub one : of_costs v w u ≡ Cheapest C
-  pub other : of_costs v' w' u' ≡ Cheapest E
+  pub one : of_costs v w u ≡ Ok C
+  pub other : of_costs v' w' u' ≡ Ok E
 
 pub record WorkedOneRate : Type 0 where
   pub stays : Moves 1 3 5 1 3 4 1 3 3

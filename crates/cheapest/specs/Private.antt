@@ -1,21 +1,22 @@
 -- What the private functions cite besides the definitions of the service. No reader of the public contract needs it.
 -- Assumes nothing.
-use Rattle.std.specs.Prelude.{◌≡◌, Bool, true, false, List, ℕ, ◌≤◌, ℤ}
+use Rattle.std.specs.Prelude.{◌≡◌, Bool, true, false, List, ℕ, ◌≤◌, ℤ, Result, Ok, Err}
 use Rattle.words.specs.Lists.{◌∈◌}
 use Rattle.weights.specs.Weights.{most_weight}
 use Rattle.aspif.specs.Rules.{InputRule, rule_words}
 use Rattle.answer_set.specs.declared.SetAnswer.{SetAnswer}
-use Rattle.answer_set.specs.declared.SetAnswer.TheVariants.{Yes, Differs, Broken, Refused}
+use Rattle.answer_set.specs.declared.SetAnswer.TheVariants.{Yes, Differs, Broken}
+use Rattle.answer_set.specs.declared.SetFault.{SetFault}
 use Rattle.checker.specs.Check.{Checked, is_inconsistent, judged}
 use Rattle.costs.specs.Costs.{Cost, good_costs, restriction, restricted}
 use Rattle.cheapest.specs.Service.{restricted_course}
 
 -- the set test said yes
-abbrev pub said_yes : SetAnswer → Bool
-said_yes Yes = true
-said_yes (Differs v) = false
-said_yes (Broken k) = false
-said_yes (Refused k) = false
+abbrev pub said_yes : Result SetAnswer SetFault → Bool
+said_yes (Ok Yes) = true
+said_yes (Ok (Differs v)) = false
+said_yes (Ok (Broken k)) = false
+said_yes (Err f) = false
 
 -- the words of the restriction to less than C, of costs that are good for the atoms 1 to N
 pub record Restricts (N : ℕ) (ks : List Cost) (C : ℕ) (words : List ℤ) : Type 0 where

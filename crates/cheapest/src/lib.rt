@@ -1,11 +1,11 @@
-// The cheapest answer set: a set with its cost, and a proof that no answer set costs less. The public service is `check_cheapest`; what
-// it means is specs/Service.antt.
+// The cheapest answer set: a set with its cost, and a proof that no answer set costs less. The public service is
+// `check_cheapest`; what it means is specs/Service.antt.
 #![tactic(auto)]
 
 mod lists;
 mod restricted;
 
-ghost use Rattle.std.specs.Prelude.{◌≡◌, true, List, ℕ, ◌+◌, ◌*◌, ◌≤◌, pos, length, replicate};
+ghost use Rattle.std.specs.Prelude.{◌≡◌, Err, true, List, ℕ, ◌+◌, ◌*◌, ◌≤◌, pos, length, replicate};
 ghost use Rattle.std.proofs.Math.Option.{some};
 ghost use Rattle.words.specs.Limits.{largest, longest, most_rules};
 ghost use Rattle.words.specs.Lists.{ascends};
@@ -20,43 +20,56 @@ ghost use Rattle.steps.specs.Held.{Program};
 ghost use Rattle.costs.specs.Costs.{costs_of, good_costs, total};
 ghost use Rattle.cheapest.specs.Service.{is_yes, restricted_course, leaves_nothing, judged_proof, with_cost, with_costs, cheapest_reading, CheckedCheapest};
 ghost use Rattle.cheapest.specs.Private.{said_yes};
-ghost use Rattle.cheapest.specs.declared.CheapestAnswer.TheVariants.{Refused};
+ghost use Rattle.aspif.specs.declared.Refusal.TheVariants.{Service};
 
-use answer_set::{SetAnswer, models};
-use aspif::{ProgramReading, ProgramRefusal};
+use answer_set::{SetAnswer, SetFault, models};
+use aspif::{ProgramCounts, Refusal};
 use weights::{MOST_WEIGHT, MOST_WEIGHTED};
 use words::ENTRIES;
 
-// The set's cost, which no answer set goes below; the question that the program fails, with its line; or 42, 62 or 63.
-#[derive(Drop)]
-pub enum CheapestAnswer {
-    Cheapest(usize),
-    RefusedProgram(ProgramRefusal),
-    Refused(u8),
+// Why a set is not certified, by the first question that fails. `u8::from` gives the question's number.
+#[derive(Clone, Copy, PartialEq, Eq)]
+pub enum CheapestFault {
+    WrongSet,
+    WrongCosts,
+    NotCertified,
+}
+
+impl From<CheapestFault> for u8 {
+    ghost use Rattle.cheapest.specs.Numbers.{number_of};
+
+    ghost from_gives = { λ fault number. number ≡ number_of fault };
+
+    fn from(fault: CheapestFault) -> u8 {
+        match fault {
+            CheapestFault::WrongSet => 42,
+            CheapestFault::WrongCosts => 62,
+            CheapestFault::NotCertified => 63,
+        }
+    }
 }
 
 // A literal and a cost for each pair.
 const COST_WORDS: usize = 2 * MOST_WEIGHTED;
 
 // Nothing stays of what is refused.
-fn refuse(table: &mut [i32], store: &mut [i32], number: u8) -> CheapestAnswer
+fn refuse(
+    table: &mut [i32],
+    store: &mut [i32],
+    fault: CheapestFault,
+) -> Result<usize, Refusal<CheapestFault>>
     ensures { record { answer = result; table = table.new; store = store.new }
-        ≡ leaves_nothing (length table.old) (length store.old) (Refused number) }
+        ≡ leaves_nothing (length table.old) (length store.old) (Err (Service fault)) }
 {
     words::zero_all(table);
     words::zero_all(store);
-    CheapestAnswer::Refused(number)
+    Err(Refusal::Service(fault))
 }
 
-fn said_yes(answer: SetAnswer) -> bool
+fn said_yes(answer: Result<SetAnswer, SetFault>) -> bool
     ensures { result ≡ said_yes answer }
 {
-    match answer {
-        SetAnswer::Yes => true,
-        SetAnswer::Differs(_) => false,
-        SetAnswer::Broken(_) => false,
-        SetAnswer::Refused(_) => false,
-    }
+    answer == Ok(SetAnswer::Yes)
 }
 
 // The set is an answer set of the program in the table, of a set that question 42 lets pass.
@@ -80,7 +93,8 @@ fn cost_of(set: &[u16], pairs: &[i32]) -> usize
     models::sum_held(pairs, &inside, &inside)
 }
 
-// 63 of the proof, for the program restricted to less than the cost, which is above 0. The pairs' literals stand sorted beside them.
+// 63 of the proof, for the program restricted to less than the cost, which is above 0. The pairs' literals stand
+// sorted beside them.
 fn judge_proof(
     proof: &[u8],
     pairs: &[i32],
@@ -90,7 +104,7 @@ fn judge_proof(
     rules: usize,
     atoms: usize,
     store: &mut [i32],
-) -> CheapestAnswer
+) -> Result<usize, Refusal<CheapestFault>>
     requires program { ((ws : List InputRule) × Program table.old rules atoms ws) × (rules ≤ most_rules) }
     requires short { length (program_words (rules_at rules table.old)) ≤ longest }
     requires pairs { (all_weights pairs.now ≡ true) × (good_costs atoms (paired pairs.now) ≡ true) }
@@ -107,9 +121,9 @@ fn judge_proof(
     restricted::write_restriction(&mut row, pairs, sorted, cost);
     let size = 5 + 2 * sorted.len();
     if restricted::accepts(&row[..size], proof, table, rules, atoms, store) {
-        return CheapestAnswer::Cheapest(cost);
+        return Ok(cost);
     }
-    refuse(table, store, 63)
+    refuse(table, store, CheapestFault::NotCertified)
 }
 
 // 62 of the set's cost, 63 of the set, and 63 of the proof, for costs that are good.
@@ -122,7 +136,7 @@ fn judge_set(
     rules: usize,
     atoms: usize,
     store: &mut [i32],
-) -> CheapestAnswer
+) -> Result<usize, Refusal<CheapestFault>>
     requires program { ((ws : List InputRule) × Program table.old rules atoms ws) × (rules ≤ most_rules) }
     requires short { length (program_words (rules_at rules table.old)) ≤ longest }
     requires pairs { (all_weights pairs.now ≡ true) × (good_costs atoms (paired pairs.now) ≡ true) }
@@ -137,13 +151,13 @@ fn judge_set(
 {
     let cost = cost_of(set, pairs);
     if MOST_WEIGHT < cost {
-        return refuse(table, store, 62);
+        return refuse(table, store, CheapestFault::WrongCosts);
     }
     if !is_answer_set(table, rules, set) {
-        return refuse(table, store, 63);
+        return refuse(table, store, CheapestFault::NotCertified);
     }
     if cost == 0 {
-        return CheapestAnswer::Cheapest(0);
+        return Ok(0);
     }
     judge_proof(proof, pairs, sorted, cost, table, rules, atoms, store)
 }
@@ -158,7 +172,7 @@ fn judge_list(
     rules: usize,
     atoms: usize,
     store: &mut [i32],
-) -> CheapestAnswer
+) -> Result<usize, Refusal<CheapestFault>>
     requires program { ((ws : List InputRule) × Program table.old rules atoms ws) × (rules ≤ most_rules) }
     requires short { length (program_words (rules_at rules table.old)) ≤ longest }
     requires row { (2 * length row.old ≤ length pairs.now) × (length pairs.now ≤ 2 * length row.old + 1)
@@ -172,10 +186,10 @@ fn judge_list(
         proof.now }
 {
     if !aspif::tables::all_weights(pairs) {
-        return refuse(table, store, 62);
+        return refuse(table, store, CheapestFault::WrongCosts);
     }
     if !lists::is_good(pairs, row, atoms) {
-        return refuse(table, store, 62);
+        return refuse(table, store, CheapestFault::WrongCosts);
     }
     judge_set(set, proof, pairs, row, table, rules, atoms, store)
 }
@@ -189,7 +203,7 @@ fn cheapest_read(
     rules: usize,
     atoms: usize,
     store: &mut [i32],
-) -> CheapestAnswer
+) -> Result<usize, Refusal<CheapestFault>>
     requires program { ((ws : List InputRule) × Program table.old rules atoms ws) × (rules ≤ most_rules) }
     requires short { length (program_words (rules_at rules table.old)) ≤ longest }
     requires empty { store.old ≡ replicate (length store.old) (pos 0) }
@@ -200,11 +214,11 @@ fn cheapest_read(
         proof.now (program ws) }
 {
     if !marks::ascends_within(set, atoms) {
-        return refuse(table, store, 42);
+        return refuse(table, store, CheapestFault::WrongSet);
     }
     let n = costs.len();
     if COST_WORDS < n {
-        return refuse(table, store, 62);
+        return refuse(table, store, CheapestFault::WrongCosts);
     }
     let mut pairs = [0i32; COST_WORDS];
     let mut row = [0i32; MOST_WEIGHTED];
@@ -222,9 +236,10 @@ fn cheapest_read(
     )
 }
 
-// Certifies a cheapest answer set: the set is an answer set of the program, and the proof shows that none costs less. The table then
-// holds the program's rules, and the store is as the check of the proof for the restricted program leaves it, 0 throughout where the
-// set costs nothing; both are 0 throughout where anything is refused.
+// Certifies a cheapest answer set: the set is an answer set of the program, and the proof shows that none costs less.
+// The answer is the set's cost. The table then holds the program's rules, and the store is as the check of the proof
+// for the restricted program leaves it, 0 throughout where the set costs nothing; both are 0 throughout where
+// anything is refused.
 pub fn check_cheapest(
     program: &[u8],
     set: &[u16],
@@ -232,16 +247,11 @@ pub fn check_cheapest(
     proof: &[u8],
     table: &mut [i32],
     store: &mut [i32],
-) -> CheapestAnswer
+) -> Result<usize, Refusal<CheapestFault>>
     ensures { CheckedCheapest program.now set.now costs.now proof.now table.old
         store.old table.new store.new result }
 {
     words::zero_all(store);
-    let read = aspif::read_program(program, table);
-    match read {
-        ProgramReading::Refused(refusal) => CheapestAnswer::RefusedProgram(refusal),
-        ProgramReading::Read { atoms, rules } => cheapest_read(
-            set, costs, proof, table, rules, atoms, store,
-        ),
-    }
+    let ProgramCounts { atoms, rules } = aspif::read_program(program, table)?;
+    cheapest_read(set, costs, proof, table, rules, atoms, store)
 }

@@ -13,15 +13,9 @@ use checker::judging;
 fn all_atoms(literals: &[i32], atoms: usize) -> bool
     ensures { result ≡ all (λ x. is_atom atoms (variable x)) literals.now }
 {
-    let mut i = 0;
-    while i < literals.len() {
-        if judging::is_atom(atoms, words::variable_of(literals[i])) {
-            i += 1;
-        } else {
-            return false;
-        }
-    }
-    true
+    literals
+        .iter()
+        .all(|x| judging::is_atom(atoms, words::variable_of(*x)))
 }
 
 // Question 62 of pairs that are at most 12, with costs in their range. Their literals are put beside them, and ascend by atom.

@@ -34,8 +34,8 @@ pub fn write_restriction(row: &mut [i32], pairs: &[i32], sorted: &[i32], bound: 
     rules::write_pairs(&mut row[5..], pairs, sorted);
 }
 
-// The proof is accepted for the program with the restriction, whose words are lent. The wider table stands in a frame of its own. The
-// store is 0 throughout, and is then as the check leaves it.
+// The proof is accepted for the program with the restriction, whose words are lent. The wider table stands in a frame
+// of its own. The store is 0 throughout, and is then as the check leaves it.
 pub fn accepts(
     rule: &[i32],
     proof: &[u8],

@@ -30,6 +30,7 @@ use Rattle.runs.specs.Course.{run_steps, run_read}
 use Rattle.checker.specs.Check.{judged}
 use Rattle.checker.specs.Claims.{prompt_after, prompt_steps, prompt_read, SameLive, SameCourse, OneWord, ClosedLate}
 use Rattle.runs.proofs.Lines.{stored_next}
+use Rattle.drupe.specs.declared.ProofFault.TheVariants.{StoreFull}
 
 -- What is live
 
@@ -69,17 +70,17 @@ module _ (N : ℕ) (P : List Rule) (size : ℕ) where
       prompt z' = prompt_steps N P size (n + 1) z' (prompt_after (n + 1) t.letter t.numbers (closed b) z') ts
 
       fits : (f : Bool) (z' : State) → closed_course (on z') ≡ prompt z'
-          → closed_course (cond f (on z') (stopped 34 (n + 1))) ≡ cond f (prompt z') (stopped 34 (n + 1))
+          → closed_course (cond f (on z') (stopped StoreFull (n + 1))) ≡ cond f (prompt z') (stopped StoreFull (n + 1))
       fits true z' h = h
       fits false z' h = refl
 
       by : ((z' : State) → closed_course (on z') ≡ prompt_steps N P size (n + 1) z' (closed (stored_next size n b t z')) ts)
           → (o : Outcome) → closed_course (elim o [
             | Steps.refused k ↦ stopped k (n + 1)
-            | next z' ↦ cond (fitting size z') (on z') (stopped 34 (n + 1))
+            | next z' ↦ cond (fitting size z') (on z') (stopped StoreFull (n + 1))
           ]) ≡ elim o [
             | Steps.refused k ↦ stopped k (n + 1)
-            | next z' ↦ cond (fitting size z') (prompt z') (stopped 34 (n + 1))
+            | next z' ↦ cond (fitting size z') (prompt z') (stopped StoreFull (n + 1))
           ]
       by later (Steps.refused k) = refl
       by later (next z') =

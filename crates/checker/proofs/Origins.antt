@@ -31,6 +31,7 @@ use Rattle.checker.specs.declared.Verdict.TheVariants.{Inconsistent, Open}
 use Rattle.runs.proofs.Lines.{stored_next}
 use Rattle.checker.proofs.Whole.{run-first, said, ended-course}
 use Rattle.runs.proofs.Live.{step-live}
+use Rattle.drupe.specs.declared.ProofFault.{ProofFault}
 
 -- All steps
 
@@ -61,7 +62,7 @@ pub course-live : (limit N : ℕ) (P : List Rule) (size : ℕ) (text : List ℕ)
 unfolding course_within
 course-live limit N P size text {n} {z} {stored} e = by (steps_within limit text) e
   where
-    unread : (k m : ℕ) (c : Course) → then_stopped k m c ≡ through n z stored → live stored ≡ z.live
+    unread : (k : ProofFault) (m : ℕ) (c : Course) → then_stopped k m c ≡ through n z stored → live stored ≡ z.live
     unread k m (stopped j i) e = absurd (zero_one (cc))
     unread k m (through i w b) e = absurd (zero_one (cc))
 

@@ -13,9 +13,12 @@ use Rattle.words.specs.Limits.{longest, most_rules}
 use Rattle.words.specs.Lists.{any}
 use Rattle.aspif.specs.Rules.{Rule, InputRule, expand, is_empty, atoms, table_words}
 use Rattle.aspif.specs.Reading.{Reading, program, read_text, read_lines, program_answer, table_of}
-use Rattle.aspif.specs.declared.ProgramReading.{ProgramReading}
-use Rattle.aspif.specs.declared.ProgramReading.TheVariants.{Read, Refused}
+use Rattle.aspif.specs.declared.ProgramCounts.{ProgramCounts}
+use Rattle.aspif.specs.declared.ProgramFault.{ProgramFault}
+use Rattle.aspif.specs.declared.ProgramFault.TheVariants.{TooLong}
 use Rattle.aspif.specs.declared.ProgramRefusal.{ProgramRefusal}
+use Rattle.aspif.specs.declared.Refusal.{Refusal}
+use Rattle.aspif.specs.declared.Refusal.TheVariants as Refused
 use Rattle.aspif.specs.Tables.{rules_at}
 use Rattle.aspif.proofs.Cursors.{few-rules, sound-rules, atoms-small, rules-of}
 use Rattle.aspif.proofs.Readable.{table-read}
@@ -31,33 +34,34 @@ use Rattle.runs.specs.Held.{Ran}
 use Rattle.runs.specs.declared.ProofRefusal.{ProofRefusal}
 use Rattle.checker.specs.declared.Verdict.{Verdict}
 use Rattle.checker.specs.declared.Verdict.TheVariants.{RefusedProgram, RefusedProof}
-use Rattle.runs.specs.declared.Run.{Run}
-use Rattle.runs.specs.declared.Run.TheVariants.{Stopped, Through}
+use Rattle.runs.specs.declared.StepsTaken.{StepsTaken}
+use Rattle.drupe.specs.declared.ProofFault.TheVariants as Fault
+use Rattle.std.specs.Prelude.{Result, Ok, Err, IsErrAnd}
+use Rattle.std.proofs.lemmas.Result.{err_from_is_err_and}
 
 -- The proof's lines
 
-pub too_long : (limit N : ℕ) (P : List Rule) (size : ℕ) (text : List ℕ) → limit < length text → course_within limit N P size text ≡ stopped 21 0
+pub too_long : (limit N : ℕ) (P : List Rule) (size : ℕ) (text : List ℕ) → limit < length text → course_within limit N P size text ≡ stopped Fault.TooLong 0
 unfolding course_within
 too_long limit N P size text h = ap (run_read N P size 0 start []) (long-steps limit text h)
 
 module _ (store : List ℤ) where
-  pub ran-stopped : (o : Course) {r : Run} (x : ProofRefusal) → Ran store o r → r ≡ Stopped x → o ≡ stopped x.number x.step
-  ran-stopped (stopped k n) x l e = let p : x ≡ record { number = k; step = n } = cc in rw p
+  pub ran-stopped : (o : Course) {r : Result StepsTaken ProofRefusal} (x : ProofRefusal) → Ran store o r → r ≡ Err x → o ≡ stopped x.fault x.step
+  ran-stopped (stopped k n) x l e = let p : x ≡ record { fault = k; step = n } = cc in rw p
   ran-stopped (through n z b) x l e = let q = l.1 in absurd (zero_one (cc))
 
-  pub ran-through : (o : Course) {r : Run} (n used : ℕ) → Ran store o r → r ≡ Through n used
-      → (z : State) × (stored : List Stored) × (o ≡ through n z stored) × Holds store used stored
-  ran-through (stopped k m) n used l e = absurd (zero_one (cc))
-  ran-through (through m z b) n used l e =
+  pub ran-through : (o : Course) {r : Result StepsTaken ProofRefusal} (taken : StepsTaken) → Ran store o r → r ≡ Ok taken
+      → (z : State) × (stored : List Stored) × (o ≡ through taken.steps z stored) × Holds store taken.used stored
+  ran-through (stopped k m) taken l e = absurd (zero_one (cc))
+  ran-through (through m z b) taken l e =
       let w = l.1 in
-      let p : m ≡ n = cc in
-      let q : l.0 ≡ used = cc in
-      (z, b, ap (λ i. through i z b) p, rw q at l.2)
+      let c : record { steps = m; used = l.0 } ≡ taken = cc in
+      (z, b, ap (λ (x : StepsTaken). through x.steps z b) c, rw (ap (λ (x : StepsTaken). x.used) c) at l.2)
 
 -- The verdict on a proof
 
 module _ (t s : ℕ) (P : List InputRule) (o : Course) {v : Verdict} {table store : List ℤ} where
-  pub judged-stopped : (x : ProofRefusal) → o ≡ stopped x.number x.step → v ≡ RefusedProof x → table ≡ replicate t (pos 0) → store ≡ replicate s (pos 0)
+  pub judged-stopped : (x : ProofRefusal) → o ≡ stopped x.fault x.step → v ≡ RefusedProof x → table ≡ replicate t (pos 0) → store ≡ replicate s (pos 0)
       → record { verdict = v; table = table; store = store } ≡ judged t s P o
   judged-stopped x p q a b = rw (p, q, a, b)
 
@@ -91,23 +95,27 @@ pub lines-read : (t : ℕ) (text : List ℕ) (P : List InputRule) → read_text 
 unfolding read_text
 lines-read t text P e = by (leb (length text) longest) e
   where
-    by : (b : Bool) → cond b (read_lines t text) (Reading.refused 1 0) ≡ program P → read_lines t text ≡ program P
+    by : (b : Bool) → cond b (read_lines t text) (Reading.refused TooLong 0) ≡ program P → read_lines t text ≡ program P
     by true e = e
     by false e = absurd (zero_one (cc))
 
 -- a program that is not read: what a service says of its refusal and of a table of zeros
-pub unread : (t : ℕ) (text : List ℕ) {r : ProgramReading} → r ≡ program_answer (read_text t text) → {table : List ℤ} → table ≡ table_of t (read_text t text)
+pub unread : (t : ℕ) (text : List ℕ) {r : Result ProgramCounts ProgramRefusal} → r ≡ program_answer (read_text t text) → {table : List ℤ} → table ≡ table_of t (read_text t text)
     → {A : Type 0} (f : Reading → A) (g : ProgramRefusal → List ℤ → A)
-    → ((k n : ℕ) → g (record { number = k; line = n }) (replicate t (pos 0)) ≡ f (Reading.refused k n))
-    → (x : ProgramRefusal) → r ≡ Refused x → g x table ≡ f (read_text t text)
+    → ((k : ProgramFault) (n : ℕ) → g (record { fault = k; line = n }) (replicate t (pos 0)) ≡ f (Reading.refused k n))
+    → (x : ProgramRefusal) → r ≡ Err x → g x table ≡ f (read_text t text)
 unread t text answer {table} words f g same x e = by (read_text t text) (sym answer ∙ e) words
   where
-    by : (d : Reading) → program_answer d ≡ Refused x → table ≡ table_of t d → g x table ≡ f d
-    by (Reading.refused k n) e w = let p : x ≡ record { number = k; line = n } = cc in rw (p, w) (same k n)
+    by : (d : Reading) → program_answer d ≡ Err x → table ≡ table_of t d → g x table ≡ f d
+    by (Reading.refused k n) e w = let p : x ≡ record { fault = k; line = n } = cc in rw (p, w) (same k n)
     by (program P) e w = absurd (zero_one (cc))
 
-module _ (t s : ℕ) (text proof : List ℕ) {r : ProgramReading} (answer : r ≡ program_answer (read_text t text)) {table : List ℤ} (words : table ≡ table_of t (read_text t text)) where
-  pub program-refused : (limit : ℕ) (x : ProgramRefusal) {store : List ℤ} → r ≡ Refused x → store ≡ replicate s (pos 0)
+-- what `?` answers of a program that is not read
+pub handed-on : {T F : Type 0} (r : Result T (Refusal F)) {x : ProgramRefusal} → IsErrAnd r (λ y. y ≡ Refused.Program x) → r ≡ Err (Refused.Program x)
+handed-on {F = F} r h = let e = err_from_is_err_and r h in e.1 ∙ ap (λ (y : Refusal F). Err y) e.2
+
+module _ (t s : ℕ) (text proof : List ℕ) {r : Result ProgramCounts ProgramRefusal} (answer : r ≡ program_answer (read_text t text)) {table : List ℤ} (words : table ≡ table_of t (read_text t text)) where
+  pub program-refused : (limit : ℕ) (x : ProgramRefusal) {store : List ℤ} → r ≡ Err x → store ≡ replicate s (pos 0)
       → record { verdict = RefusedProgram x; table = table; store = store } ≡ check_within limit text proof t s
   unfolding check_within
   program-refused limit x {store} e z =
@@ -121,12 +129,14 @@ module _ (t s : ℕ) (text proof : List ℕ) {r : ProgramReading} (answer : r �
     pub count : length P ≡ R
     pub rules : table ≡ table_words t P
 
-  pub program-read : (N R : ℕ) → r ≡ Read N R → ReadProgram N R
+  pub program-read : (N R : ℕ) → r ≡ Ok (record { atoms = N; rules = R }) → ReadProgram N R
   program-read N R e = by (read_text t text) refl (sym answer ∙ e) words
     where
-      by : (d : Reading) → read_text t text ≡ d → program_answer d ≡ Read N R → table ≡ table_of t d → ReadProgram N R
+      by : (d : Reading) → read_text t text ≡ d → program_answer d ≡ Ok (record { atoms = N; rules = R }) → table ≡ table_of t d → ReadProgram N R
       by (Reading.refused k n) q e w = absurd (zero_one (cc))
-      by (program P) q e w = record { P = P; read = q; top = cc; count = cc; rules = w }
+      by (program P) q e w =
+          let c : record { atoms = atoms P; rules = length P } ≡ record { atoms = N; rules = R } = cc in
+          record { P = P; read = q; top = sym (ap (λ (x : ProgramCounts). x.atoms) c); count = ap (λ (x : ProgramCounts). x.rules) c; rules = w }
 
   pub check-read : (limit : ℕ) {N R : ℕ} (p : ReadProgram N R)
       → check_within limit text proof t s ≡ judged t s p.P (course_within limit (atoms p.P) (expand p.P) s proof)

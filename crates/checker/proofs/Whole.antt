@@ -27,6 +27,8 @@ use Rattle.checker.specs.declared.Counts.{Counts}
 use Rattle.runs.specs.declared.ProofRefusal.{ProofRefusal}
 use Rattle.checker.specs.declared.Verdict.TheVariants.{RefusedProof}
 use Rattle.runs.proofs.Lines.{stored_next, same-course-within}
+use Rattle.drupe.specs.declared.ProofFault.TheVariants.{StoreFull}
+use Rattle.drupe.specs.declared.ProofFault.{ProofFault}
 
 -- the first of some steps that run through: it is accepted and fits, and the others run through
 module _ (N : ℕ) (P : List Rule) (size n : ℕ) (z : State) (b : List Stored) (t : Step) (ts : List Step) where
@@ -45,12 +47,12 @@ run-first N P size n m z w b l t ts e = by (step N P z t) refl e
 
     by : (o : Outcome) → step N P z t ≡ o → elim o [
       | Steps.refused k ↦ stopped k (n + 1)
-      | next z' ↦ cond (fitting size z') (on z') (stopped 34 (n + 1))
+      | next z' ↦ cond (fitting size z') (on z') (stopped StoreFull (n + 1))
     ] ≡ through m w l → First N P size n z b t ts (through m w l)
     by (Steps.refused k) q e = absurd (zero_one (cc))
     by (next z') q e = fits (fitting size z') refl e
       where
-        fits : (f : Bool) → fitting size z' ≡ f → cond f (on z') (stopped 34 (n + 1)) ≡ through m w l
+        fits : (f : Bool) → fitting size z' ≡ f → cond f (on z') (stopped StoreFull (n + 1)) ≡ through m w l
             → First N P size n z b t ts (through m w l)
         fits true f e = record { left = z'; is = q; fits = f; later = e }
         fits false f e = absurd (zero_one (cc))
@@ -82,7 +84,7 @@ ended-written limit ws size proof b c = (to, from)
         (W.0, W.1, W.2, (steps-exact limit proof W.0).1 (W.3, W.4, steps-pass (atoms ws) (expand ws) start W.1 W.0 a), W.5, W.6, W.7)
 
 -- a text of which a line is refused is not accepted
-unread-open : (k n : ℕ) (c : Course) → ends_empty (then_stopped k n c) ≡ false
+unread-open : (k : ProofFault) (n : ℕ) (c : Course) → ends_empty (then_stopped k n c) ≡ false
 unread-open k n (stopped j m) = refl
 unread-open k n (through m z b) = refl
 
@@ -133,7 +135,7 @@ module _ (limit : ℕ) (proof : List ℕ) (t s : ℕ) (ws : List InputRule) (b :
   unfolding course_within
   ended→ e = by (steps_within limit proof) refl e
     where
-      unread : (k n : ℕ) (o : Course) → (judged t s ws (then_stopped k n o)).verdict ≡ saying b c → Ended limit ws s proof b c
+      unread : (k : ProofFault) (n : ℕ) (o : Course) → (judged t s ws (then_stopped k n o)).verdict ≡ saying b c → Ended limit ws s proof b c
       unread k n (stopped j m) e = absurd (refusal-apart b c _ e)
       unread k n (through m z l) e = absurd (refusal-apart b c _ e)
 

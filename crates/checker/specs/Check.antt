@@ -38,7 +38,7 @@ saying b c = cond b (Inconsistent c) (Open c)
 -- count the rules as written".
 abbrev pub judged : (table_size store_size : ℕ) → List InputRule → Course → Checked
 judged t s ws (stopped k n) =
-    record { verdict = RefusedProof (record { number = k; step = n }); table = replicate t (pos 0); store = replicate s (pos 0) }
+    record { verdict = RefusedProof (record { fault = k; step = n }); table = replicate t (pos 0); store = replicate s (pos 0) }
 judged t s ws (through n z stored) =
     let said = saying (empty_live z) (counts_of (atoms ws) (length ws) n z) in
     record { verdict = said; table = table_words t ws; store = store_words s stored }
@@ -46,7 +46,7 @@ judged t s ws (through n z stored) =
 -- "The verdict is judged on this expansion": the steps are about the plain rules that the program stands for
 abbrev pub judged_reading : (limit table_size store_size : ℕ) → (proof : List ℕ) → Reading → Checked
 judged_reading limit t s proof (refused k n) =
-    record { verdict = RefusedProgram (record { number = k; line = n }); table = replicate t (pos 0); store = replicate s (pos 0) }
+    record { verdict = RefusedProgram (record { fault = k; line = n }); table = replicate t (pos 0); store = replicate s (pos 0) }
 judged_reading limit t s proof (program ws) = judged t s ws (course_within limit (atoms ws) (expand ws) s proof)
 
 -- the whole check of a program text and a proof text with a table of t words and a store of s words, where question 21 is put with so

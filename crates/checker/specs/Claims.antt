@@ -22,6 +22,7 @@ use Rattle.checker.specs.Check.{counts_of, judged, check_within, CheckedWithin}
 use Rattle.checker.specs.declared.Counts.{Counts}
 use Rattle.checker.specs.declared.Verdict.{Verdict}
 use Rattle.checker.specs.declared.Verdict.TheVariants.{Inconsistent, Open}
+use Rattle.drupe.specs.declared.ProofFault.TheVariants.{StoreFull}
 
 -- The proof text's steps are ts, they run through, and after the last the empty nogood is live, or is not; the counts are those of
 -- the program, the steps and the live nogoods.
@@ -146,7 +147,7 @@ module _ (N : ℕ) (P : List Rule) (size : ℕ) where
         | next z' ↦
             cond (fitting size z')
             (prompt_steps (n + 1) z' (prompt_after (n + 1) t.letter t.numbers stored z') ts)
-            (stopped 34 (n + 1))
+            (stopped StoreFull (n + 1))
       ]
 
   abbrev pub prompt_read : StepsRead → Course

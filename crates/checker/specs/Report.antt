@@ -3,6 +3,8 @@
 use Rattle.std.specs.Prelude.{List, [], ◌∷◌, ◌++◌, ℕ}
 use Rattle.text.specs.Decimals.{decimal}
 use Rattle.text.specs.Strings.{bytes}
+use Rattle.aspif.specs.Numbers.{number_of}
+use Rattle.drupe.specs.Numbers as Proof
 use Rattle.checker.specs.Check.{check}
 use Rattle.checker.specs.declared.Counts.{Counts}
 use Rattle.checker.specs.declared.Verdict.{Verdict}
@@ -22,8 +24,8 @@ counts_text c = numbered (c.atoms ∷ c.rules ∷ c.steps ∷ c.nogoods ∷ [])
 abbrev pub verdict_line : Verdict → List ℕ
 verdict_line (Inconsistent c) = bytes "inconsistent" ++ counts_text c
 verdict_line (Open c) = bytes "open" ++ counts_text c
-verdict_line (RefusedProgram r) = bytes "refused program" ++ numbered (r.number ∷ r.line ∷ [])
-verdict_line (RefusedProof r) = bytes "refused proof" ++ numbered (r.number ∷ r.step ∷ [])
+verdict_line (RefusedProgram r) = bytes "refused program" ++ numbered (number_of r.fault ∷ r.line ∷ [])
+verdict_line (RefusedProof r) = bytes "refused proof" ++ numbered (Proof.number_of r.fault ∷ r.step ∷ [])
 
 -- the bytes of the longest line: `inconsistent`, four numbers of 20 digits, each after a space, and the newline
 abbrev pub longest_line : ℕ

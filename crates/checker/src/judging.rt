@@ -15,7 +15,8 @@ ghost use Rattle.runs.specs.Held.{Ran};
 ghost use Rattle.checker.specs.declared.Verdict.TheVariants.{RefusedProof};
 
 use crate::{Counts, Verdict};
-use runs::{ProofRefusal, Run};
+use drupe::ProofFault;
+use runs::{ProofRefusal, StepsTaken};
 
 // Nothing of a proof that is refused stays, nor of its program.
 fn refuse(table: &mut [i32], store: &mut [i32], refusal: ProofRefusal) -> Verdict
@@ -48,14 +49,14 @@ fn conclude(store: &[i32], used: usize, atoms: usize, rules: usize, steps: usize
 }
 
 // The lines that came to this end with the empty nogood live.
-pub fn ends_empty(run: Run, store: &[i32]) -> bool
+pub fn ends_empty(run: Result<StepsTaken, ProofRefusal>, store: &[i32]) -> bool
     requires { (c : Course) × Ran store.now c run }
     ensures { (limit N : ℕ) (P : List Rule) (size : ℕ) (text : List ℕ) → Ran store.now (course_within limit N P size text) run
         → result ≡ ends_empty (course_within limit N P size text) }
 {
     match run {
-        Run::Stopped(_) => false,
-        Run::Through { steps, used } => nogoods::store::has_empty(store, used),
+        Err(_) => false,
+        Ok(taken) => nogoods::store::has_empty(store, taken.used),
     }
 }
 
@@ -86,12 +87,7 @@ pub fn is_accepted(
 pub fn is_inconsistent(verdict: Verdict) -> bool
     ensures { result ≡ is_inconsistent verdict }
 {
-    match verdict {
-        Verdict::Inconsistent(_) => true,
-        Verdict::Open(_) => false,
-        Verdict::RefusedProgram(_) => false,
-        Verdict::RefusedProof(_) => false,
-    }
+    matches!(verdict, Verdict::Inconsistent(_))
 }
 
 // The number is an atom of a program with the atoms 1 to `atoms`.
@@ -126,15 +122,15 @@ pub fn check_within(
             table,
             store,
             ProofRefusal {
-                number: 21,
+                fault: ProofFault::TooLong,
                 step: 0,
             },
         );
     }
     let run = runs::run_long(proof, table, rules, atoms, store, index);
     match run {
-        Run::Stopped(refusal) => refuse(table, store, refusal),
-        Run::Through { steps, used } => conclude(store, used, atoms, rules, steps),
+        Err(refusal) => refuse(table, store, refusal),
+        Ok(taken) => conclude(store, taken.used, atoms, rules, taken.steps),
     }
 }
 

@@ -7,7 +7,7 @@ pub mod report;
 
 ghost use Rattle.checker.specs.Check.{CheckedTexts, CheckedLong};
 
-use aspif::{ProgramReading, ProgramRefusal};
+use aspif::{ProgramCounts, ProgramRefusal};
 use runs::ProofRefusal;
 
 // N, R, S and K: the largest atom, the rules, the steps and the live nogoods after the last.
@@ -38,8 +38,8 @@ pub fn check_texts(program: &[u8], proof: &[u8], table: &mut [i32], store: &mut 
     words::zero_all(store);
     let read = aspif::read_program(program, table);
     match read {
-        ProgramReading::Refused(refusal) => Verdict::RefusedProgram(refusal),
-        ProgramReading::Read { atoms, rules } => judging::check_proof(
+        Err(refusal) => Verdict::RefusedProgram(refusal),
+        Ok(ProgramCounts { atoms, rules }) => judging::check_proof(
             proof, table, atoms, rules, store,
         ),
     }
@@ -58,11 +58,11 @@ pub fn check_long(
         table.new store.new memory.old memory.new result }
 {
     words::zero_all(store);
-    words::zero_cells(memory);
+    words::zero_all(memory);
     let read = aspif::read_program(program, table);
     match read {
-        ProgramReading::Refused(refusal) => Verdict::RefusedProgram(refusal),
-        ProgramReading::Read { atoms, rules } => {
+        Err(refusal) => Verdict::RefusedProgram(refusal),
+        Ok(ProgramCounts { atoms, rules }) => {
             let verdict = judging::check_within(
                 words::WIDEST,
                 proof,
@@ -72,7 +72,7 @@ pub fn check_long(
                 store,
                 memory,
             );
-            words::zero_cells(memory);
+            words::zero_all(memory);
             verdict
         }
     }

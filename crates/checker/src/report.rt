@@ -67,11 +67,21 @@ pub fn write_line(verdict: Verdict, buffer: &mut [u8]) -> usize
         }
         Verdict::RefusedProgram(refusal) => {
             let at = writing::put_bytes(buffer, 0, b"refused program");
-            put_two(buffer, at, refusal.number as usize, refusal.line)
+            put_two(
+                buffer,
+                at,
+                usize::from(u8::from(refusal.fault)),
+                refusal.line,
+            )
         }
         Verdict::RefusedProof(refusal) => {
             let at = writing::put_bytes(buffer, 0, b"refused proof");
-            put_two(buffer, at, refusal.number as usize, refusal.step)
+            put_two(
+                buffer,
+                at,
+                usize::from(u8::from(refusal.fault)),
+                refusal.step,
+            )
         }
     }
 }

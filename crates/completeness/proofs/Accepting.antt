@@ -18,6 +18,8 @@ use Rattle.drupe.specs.Texts.{Step}
 use Rattle.derivation.specs.States.{State, start}
 use Rattle.derivation.specs.Steps.{Outcome, refused, next, by_letter}
 use Rattle.completeness.specs.Claims.{free_step, free_steps, Sized}
+use Rattle.drupe.specs.declared.ProofFault.TheVariants.{Malformed, WrongSigns, RepeatedVariable}
+use Rattle.drupe.specs.declared.ProofFault.{ProofFault}
 
 -- Outcomes
 
@@ -25,7 +27,7 @@ abbrev is_next : Outcome → Bool
 is_next (refused k) = false
 is_next (next z) = true
 
-pub not-refused : {k : ℕ} {z : State} → refused k ≡ next z → ⊥
+pub not-refused : {k : ProofFault} {z : State} → refused k ≡ next z → ⊥
 not-refused e = true≢false (sym (ap is_next e))
 
 abbrev state_of : Outcome → State
@@ -33,11 +35,11 @@ state_of (refused k) = start
 state_of (next z) = z
 
 -- a question that asks for a yes, and one that asks for a no
-pub yes-passes : {b : Bool} {o : Outcome} {z : State} (k : ℕ) → b ≡ true → o ≡ next z → cond b o (refused k) ≡ next z
+pub yes-passes : {b : Bool} {o : Outcome} {z : State} (k : ProofFault) → b ≡ true → o ≡ next z → cond b o (refused k) ≡ next z
 yes-passes {b = true} k e p = p
 yes-passes {b = false} k e p = absurd (true≢false (sym e))
 
-pub no-passes : {b : Bool} {o : Outcome} {z : State} (k : ℕ) → b ≡ false → o ≡ next z → cond b (refused k) o ≡ next z
+pub no-passes : {b : Bool} {o : Outcome} {z : State} (k : ProofFault) → b ≡ false → o ≡ next z → cond b (refused k) o ≡ next z
 no-passes {b = true} k e p = absurd (true≢false e)
 no-passes {b = false} k e p = p
 
@@ -46,8 +48,8 @@ module _ (N : ℕ) (P : List Rule) where
   pub accepted : (z z' : State) (x : Letter) (l : List ℤ) → ((y : ℤ) → y ∈ l → 1 ≤ variable y) → signed (signs_of x) l ≡ true → distinct l ≡ true
       → by_letter N P z x l ≡ next z' → free_step N P z (record { letter = x; numbers = l }) ≡ next z'
   accepted z z' x l f s d e =
-      no-passes 22 (failed (has (pos 0) l) ((not-decides (has-decides (pos 0) l)).from (λ i. omega (arith, f (pos 0) i))))
-      (yes-passes 24 s (yes-passes 25 d e))
+      no-passes Malformed (failed (has (pos 0) l) ((not-decides (has-decides (pos 0) l)).from (λ i. omega (arith, f (pos 0) i))))
+      (yes-passes WrongSigns s (yes-passes RepeatedVariable d e))
 
   -- the steps after one that leaves an outcome
   abbrev pub then : List Step → Outcome → Outcome

@@ -31,6 +31,7 @@ use Rattle.completeness.proofs.Totals.{Total, distinct_cons, distinct-keep, diff
 use Rattle.completeness.proofs.Leaves.{Holds, Fails, BadRule, BadAtom, BadLoop, Bad, rule, atom, loop}
 use Rattle.completeness.proofs.Accepting.{yes-passes, accepted, Reached, reached-more}
 use Rattle.completeness.proofs.Naming.{HasName, name_of, body_of, Ready, ready-add}
+use Rattle.drupe.specs.declared.ProofFault.TheVariants.{UnknownVariable, NoCompletion, NoSupport, NoAtoms, UnnamedBody, NoConflict, NoLoop}
 
 -- Propagation
 
@@ -103,8 +104,8 @@ module _ (N : ℕ) (P : List Rule) (wf : WellFormed N P) where
     abbrev pub addition-step : (L : List ℤ) (k : ℕ) → k ≤ N → Total k L → Conflict z.live L → Further z (ascending L)
     addition-step L k h t c =
         one_more z s Addition L (ascending L) (λ y i. (t.within y i).0) (signs L) t.once
-        (yes-passes 26 (is_true (all_known-decides N z L) (λ y i. let w = t.within y i in atom-known-in (variable y) w.0 (omega (arith, w.1))))
-        (yes-passes 33 (is_true (refuted-decides z.live L) c) refl))
+        (yes-passes UnknownVariable (is_true (all_known-decides N z L) (λ y i. let w = t.within y i in atom-known-in (variable y) w.0 (omega (arith, w.1))))
+        (yes-passes NoConflict (is_true (refuted-decides z.live L) c) refl))
         (tt, λ y i. omega (arith, (t.within y i).1), by-atoms (omega (arith, t.size)))
       where
         signs : (L : List ℤ) → signed (signs_of Addition) L ≡ true
@@ -126,9 +127,9 @@ module _ (N : ℕ) (P : List Rule) (wf : WellFormed N P) where
         (pos-positive x.name (omega (arith, name-above x i)), λ h j. (wf.heads r m h j).0))
         (distinct_cons (name_of x) r.heads (λ h j q. let o : x.name ≡ variable h = q in omega (arith, name-above x i, (wf.heads r m h j).1))
         (few-distinct r.heads (wf.single r m e)))
-        (yes-passes 26 (is_true (all_known-decides N z (name_of x ∷ r.heads))
+        (yes-passes UnknownVariable (is_true (all_known-decides N z (name_of x ∷ r.heads))
         (each-cons (name-known x i) (λ h j. atom-known-in (variable h) (head-from h j) (wf.heads r m h j).1)))
-        (yes-passes 29 (is_true (completion-decides P z (name_of x) r.heads) (r, m, (e, (refl, (name-decides z x.name r.body).from (x, i, (refl, p)))))) refl))
+        (yes-passes NoCompletion (is_true (completion-decides P z (name_of x) r.heads) (r, m, (e, (refl, (name-decides z x.name r.body).from (x, i, (refl, p)))))) refl))
         (tt, each-cons (name_below x i) (λ h j. omega (arith, (wf.heads r m h j).1)), by_name (omega (arith, wf.single r m e)))
       where
         head-from : (h : ℤ) → h ∈ r.heads → 1 ≤ variable h
@@ -207,8 +208,8 @@ module _ (N : ℕ) (P : List Rule) (wf : WellFormed N P) where
           (each-cons h-from (λ n i. omega (arith, n-above n i)))
           (is_true (and-decides (itself (is_positive h)) (all-decides (λ n. itself (is_positive n)) supporting)) (hp, n-positive))
           (distinct_cons h supporting (λ n i q. omega (arith, n-above n i, hn, q)) once)
-          (yes-passes 26 (is_true (all_known-decides N z (h ∷ supporting)) (each-cons (atom-known-in (variable h) h-from hn) n-known))
-          (yes-passes 30 is-support refl))
+          (yes-passes UnknownVariable (is_true (all_known-decides N z (h ∷ supporting)) (each-cons (atom-known-in (variable h) h-from hn) n-known))
+          (yes-passes NoSupport is-support refl))
           (tt, each-cons (omega (arith, hn)) n-below, by-head h (omega (arith, count)))
 
     -- `l`
@@ -233,10 +234,10 @@ module _ (N : ℕ) (P : List Rule) (wf : WellFormed N P) where
         from
         (is_true (all-decides (λ x. itself (is_positive x)) (h ∷ hs)) (λ x i. (a x i).0))
         d
-        (yes-passes 26 (is_true (all_known-decides N z (h ∷ hs)) (λ x i. atom-known-in (variable x) (from x i) (a x i).1))
-        (yes-passes 31 (is_true (all_atoms-decides N z (h ∷ hs)) (λ x i. (atom-decides N (variable x)).from (from x i, (a x i).1)))
-        (yes-passes 56 (is_true (loop-decides P (h ∷ hs)) l)
-        (yes-passes 32 (is_true (all_named-decides P z (h ∷ hs)) (λ r m _. (has_name-decides z r.body).from (s.all r m)))
+        (yes-passes UnknownVariable (is_true (all_known-decides N z (h ∷ hs)) (λ x i. atom-known-in (variable x) (from x i) (a x i).1))
+        (yes-passes NoAtoms (is_true (all_atoms-decides N z (h ∷ hs)) (λ x i. (atom-decides N (variable x)).from (from x i, (a x i).1)))
+        (yes-passes NoLoop (is_true (loop-decides P (h ∷ hs)) l)
+        (yes-passes UnnamedBody (is_true (all_named-decides P z (h ∷ hs)) (λ r m _. (has_name-decides z r.body).from (s.all r m)))
         refl))))
         (tt, λ x i. omega (arith, (a x i).1), by-atoms c)
       where

@@ -20,11 +20,12 @@ use Rattle.derivation.proofs.Sustaining.{Fine, letter-fine, never-empty}
 use Rattle.derivation.proofs.Sound.{answer-set-sustained, none-further}
 use Rattle.completeness.specs.Claims.{free_step, free_steps, WellFormed, Answer, Refutes, Refutation, Exact}
 use Rattle.completeness.proofs.Complete.{complete}
+use Rattle.drupe.specs.declared.ProofFault.TheVariants.{Malformed}
 
 module _ (N : ℕ) (P : List Rule) (fits : plain_atoms P ≤ N) (M : ℕ → Type 0) (S : AnswerSet M P) where
   free-fine : (z : State) → Kept N M z → (t : Step) → Fine N P M (free_step N P z t)
   free-fine z k t =
-      if_no (Kept N M) (has-decides (pos 0) t.numbers) _ 22
+      if_no (Kept N M) (has-decides (pos 0) t.numbers) _ Malformed
       (λ nz. if-signed (Kept N M) t.letter t.numbers _
       (λ s _. letter-fine N P M (answer-set-sustained N P fits M S {Line = λ l. Unit {0}}) z k t.letter t.numbers nz tt s))
 

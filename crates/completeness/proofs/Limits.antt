@@ -24,12 +24,13 @@ use Rattle.derivation.proofs.Outcomes.{is_beyond, signing, step-asks}
 use Rattle.completeness.specs.Claims.{free_step, free_steps, Within, Short, by-atoms, by_name, by-body, by-head, Answer, Refutation, Accepted, SameSteps, AcceptedFree, CompleteWithin}
 use Rattle.completeness.proofs.Accepting.{not-refused, then}
 use Rattle.completeness.proofs.Complete.{complete}
+use Rattle.drupe.specs.declared.ProofFault.TheVariants.{Malformed, OutOfRange}
 
 module _ (N : ℕ) (P : List Rule) where
   same_step : (z : State) (t : Step) → Within largest most_numbers t → step N P z t ≡ free_step N P z t
   same_step z t w =
       step-asks N P z t
-      ∙ ap (λ (b : Bool). cond (has (pos 0) t.numbers) (refused 22) (cond b (refused 23) later)) small
+      ∙ ap (λ (b : Bool). cond (has (pos 0) t.numbers) (refused Malformed) (cond b (refused OutOfRange) later)) small
     where
       later : Outcome
       later = signing t.letter t.numbers (by_letter N P z t.letter t.numbers)
@@ -57,7 +58,7 @@ module _ (N : ℕ) (P : List Rule) where
   step-free : (z y : State) (t : Step) → step N P z t ≡ next y → free_step N P z t ≡ next y
   step-free z y t e = by (has (pos 0) t.numbers) (is_beyond t.numbers) _ (sym (step-asks N P z t) ∙ e)
     where
-      by : (h b : Bool) (o : Outcome) → cond h (refused 22) (cond b (refused 23) o) ≡ next y → cond h (refused 22) o ≡ next y
+      by : (h b : Bool) (o : Outcome) → cond h (refused Malformed) (cond b (refused OutOfRange) o) ≡ next y → cond h (refused Malformed) o ≡ next y
       by true b o e = e
       by false true o e = absurd (not-refused e)
       by false false o e = e

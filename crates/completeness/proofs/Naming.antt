@@ -23,6 +23,7 @@ use Rattle.derivation.proofs.Questions.{pos-positive, atom-decides, known-decide
 use Rattle.completeness.specs.Claims.{WellFormed, by-body}
 use Rattle.completeness.proofs.Totals.{distinct_cons, Different}
 use Rattle.completeness.proofs.Accepting.{yes-passes, no-passes, accepted, Reached, reached-start, reached-more}
+use Rattle.drupe.specs.declared.ProofFault.TheVariants.{UnknownVariable, KnownName, NoUnnamedBody}
 
 -- a body with a name
 abbrev pub HasName : State → List ℤ → Type 0
@@ -121,10 +122,10 @@ module _ (N : ℕ) (P : List Rule) where
 
       pub named-so : by_letter N P z Body (pos n ∷ r.body) ≡ next after
       named-so =
-          yes-passes 26 (is_true (all_known-decides N z r.body)
+          yes-passes UnknownVariable (is_true (all_known-decides N z r.body)
           (λ v i. let w = wf.literals r m v i in atom-known N z (variable v) ((atom-decides N (variable v)).from w)))
-          (no-passes 27 fresh
-          (yes-passes 28 unnamed (ap (λ l. next (define z (pos n) r.body (record { name = n; body = l } ∷ z.named))) order)))
+          (no-passes KnownName fresh
+          (yes-passes NoUnnamedBody unnamed (ap (λ l. next (define z (pos n) r.body (record { name = n; body = l } ∷ z.named))) order)))
 
       abbrev reached-after : Reached N P z → Reached N P after
       reached-after h =

@@ -19,14 +19,15 @@ use Rattle.drupe.specs.Texts.{Step}
 use Rattle.derivation.specs.States.{State, start}
 use Rattle.derivation.specs.Claims.{NoAnswerSet, NoneAsWritten}
 use Rattle.derivation.specs.Steps.{Outcome, refused, next, by_letter, steps, empty_live}
+use Rattle.drupe.specs.declared.ProofFault.TheVariants.{Malformed, WrongSigns, RepeatedVariable}
 
 -- A step with question 23, of the sizes and the count of a line's numbers, not put: 22, 24, 25 and those by letter
 abbrev pub free_step : ℕ → List Rule → State → Step → Outcome
 free_step N P z t =
-    cond (has (pos 0) t.numbers) (refused 22)
+    cond (has (pos 0) t.numbers) (refused Malformed)
     (cond (signed (signs_of t.letter) t.numbers)
-    (cond (distinct t.numbers) (by_letter N P z t.letter t.numbers) (refused 25))
-    (refused 24))
+    (cond (distinct t.numbers) (by_letter N P z t.letter t.numbers) (refused RepeatedVariable))
+    (refused WrongSigns))
 
 -- "Each step gets all three as the one before left them"
 abbrev pub free_steps : ℕ → List Rule → State → List Step → Outcome

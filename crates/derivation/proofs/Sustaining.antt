@@ -32,6 +32,7 @@ use Rattle.derivation.proofs.Questions.{body-atom, unnamed-decides, completion-d
 use Rattle.derivation.proofs.Outcomes.{is_beyond, Then, if_yes, if_no, if-line, if-citing, if-naming}
 use Rattle.derivation.proofs.Invariant.{AllKnown, AllAtoms, Kept, start-kept, add_kept, define-kept}
 use Rattle.derivation.proofs.Nogoods.{Positives}
+use Rattle.drupe.specs.declared.ProofFault.TheVariants.{Malformed, NoUnnamedBody, NoCompletion, NoSupport, NoAtoms, UnnamedBody, NoConflict, NoLoop}
 
 module _ (N : ℕ) (P : List Rule) (M : ℕ → Type 0) where
   -- the nogoods of the three letters fail; of the numbers of an `l` step `Line` is known
@@ -69,7 +70,7 @@ module _ (N : ℕ) (P : List Rule) (M : ℕ → Type 0) where
     body-fine : (n : ℤ) (L : List ℤ) → T (is_positive n) → ¬ (pos 0 ∈ L) → Fine (naming N z n L (body P z n L))
     body-fine n L p nz =
         if-naming (Kept N M) N z n L (body P z n L)
-        (λ known fresh. if_yes (Kept N M) (unnamed-decides P z L) _ 28
+        (λ known fresh. if_yes (Kept N M) (unnamed-decides P z L) _ NoUnnamedBody
         (λ t. define-kept N M z k n L _ p fresh known nz (λ x m. names t.0 x (Memᴰ.cases_cons m))))
       where
         new : Named
@@ -87,22 +88,22 @@ module _ (N : ℕ) (P : List Rule) (M : ℕ → Type 0) where
     completion-fine : (n : ℤ) (hs : List ℤ) → T (is_positive n) → Positives hs → Fine (citing N z (n ∷ hs) (completion P z n hs))
     completion-fine n hs p q =
         if-citing (Kept N M) N z (n ∷ hs) (completion P z n hs)
-        (λ known. if_yes (Kept N M) (completion-decides P z n hs) _ 29
+        (λ known. if_yes (Kept N M) (completion-decides P z n hs) _ NoCompletion
         (λ t. add_kept N M z k (n ∷ map complement hs) (with-complements-known n hs known)
         (S.completion-fails z k n hs p q t.0 t.1 t.2.0 t.2.1.0 t.2.1.1)))
 
     support-fine : (h : ℤ) (ns : List ℤ) → T (is_positive h) → Positives ns → Fine (citing N z (h ∷ ns) (support N P z h ns))
     support-fine h ns p q =
         if-citing (Kept N M) N z (h ∷ ns) (support N P z h ns)
-        (λ known. if_yes (Kept N M) (support-decides N P z h ns) _ 30
+        (λ known. if_yes (Kept N M) (support-decides N P z h ns) _ NoSupport
         (λ t. add_kept N M z k (h ∷ map complement ns) (with-complements-known h ns known) (S.support-fails z k h ns p q t.0 t.1.0)))
 
     loop-fine : (h : ℤ) (hs : List ℤ) → Line (h ∷ hs) → Positives (h ∷ hs) → Fine (citing N z (h ∷ hs) (loop N P z h hs))
     loop-fine h hs l q =
         if-citing (Kept N M) N z (h ∷ hs) (loop N P z h hs)
-        (λ known. if_yes (Kept N M) (all_atoms-decides N z (h ∷ hs)) _ 31
-        (λ a. if_yes (Kept N M) (loop-decides P (h ∷ hs)) _ 56
-        (λ loops. if_yes (Kept N M) (all_named-decides P z (h ∷ hs)) _ 32
+        (λ known. if_yes (Kept N M) (all_atoms-decides N z (h ∷ hs)) _ NoAtoms
+        (λ a. if_yes (Kept N M) (loop-decides P (h ∷ hs)) _ NoLoop
+        (λ loops. if_yes (Kept N M) (all_named-decides P z (h ∷ hs)) _ UnnamedBody
         (λ e. add_kept N M z k (h ∷ map (λ n. neg_ℤ (pos n)) (external_names P z (h ∷ hs)))
         (each-cons (known h (Memᴰ.head refl)) (externals-known (h ∷ hs)))
         (S.loop-fails z k h hs l q a loops e)))))
@@ -110,7 +111,7 @@ module _ (N : ℕ) (P : List Rule) (M : ℕ → Type 0) where
     addition-fine : (L : List ℤ) → ¬ (pos 0 ∈ L) → Fine (citing N z L (addition P z L))
     addition-fine L nz =
         if-citing (Kept N M) N z L (addition P z L)
-        (λ known. if_yes (Kept N M) (refuted-decides z.live L) _ 33
+        (λ known. if_yes (Kept N M) (refuted-decides z.live L) _ NoConflict
         (λ c. add_kept N M z k L known (λ f. conflict-false k.W z.live (λ g m. (k.live g m).fails) L f nz c)))
 
     deletion-fine : (L : List ℤ) → Fine (citing N z L (deletion P z L))
@@ -157,7 +158,7 @@ module _ (N : ℕ) (P : List Rule) (M : ℕ → Type 0) where
   module _ (S : Sustained (λ l. length l ≤ most_numbers)) where
     step-fine : (z : State) → Kept N M z → (t : Step) → Fine (step N P z t)
     step-fine z k t =
-        if_no (Kept N M) (has-decides (pos 0) t.numbers) _ 22
+        if_no (Kept N M) (has-decides (pos 0) t.numbers) _ Malformed
         (λ nz. if-line (Kept N M) t.letter t.numbers _
         (λ w s _. letter-fine S z k t.letter t.numbers nz (few w) s))
       where

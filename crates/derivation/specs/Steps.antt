@@ -1,7 +1,7 @@
 -- The seven steps, with questions 22 to 33 and 56: document 01, 'The proof's seven letters' and 'Questions put to the input'.
 -- Assumes nothing.
 use Rattle.std.specs.Prelude.{Bool, cond, not, ◌&&◌, ◌||◌, List, [], ◌∷◌, ◌++◌, map, ℕ, ℤ, pos, neg_ℤ}
-use Rattle.std.proofs.Math.Option.{none, some}
+use Rattle.std.specs.Prelude.{None, Some}
 use Rattle.words.specs.Lists.{any, all, filter, drop_first}
 use Rattle.words.specs.Literals.{variable, complement, same_list, has, ascending}
 use Rattle.text.specs.declared.Letter.{Letter}
@@ -12,10 +12,12 @@ use Rattle.drupe.specs.Texts.{Step}
 use Rattle.derivation.specs.Propagation.{refuted}
 use Rattle.derivation.specs.Loops.{is_loop}
 use Rattle.derivation.specs.States.{Named, State, is_atom, is_known, is_name, has_name}
+use Rattle.drupe.specs.declared.ProofFault.TheVariants.{Malformed, WrongSigns, UnknownVariable, KnownName, NoUnnamedBody, NoCompletion, NoSupport, NoAtoms, UnnamedBody, NoConflict, NoLoop}
+use Rattle.drupe.specs.declared.ProofFault.{ProofFault}
 
 -- "A refused step ends the check", with the number of the question; otherwise the three things as the step leaves them
 pub data Outcome : Type 0 where
-  refused : ℕ → Outcome
+  refused : ProofFault → Outcome
   next : State → Outcome
 
 -- "`b` adds to all three, `e` to the nogoods and the known variables; `c`, `s`, `l` and `a` add one nogood; `d` takes at most one
@@ -50,11 +52,11 @@ module _ (N : ℕ) (z : State) where
 
   -- questions 26 and 27 of a step that introduces n, and those after them
   abbrev pub naming : ℤ → List ℤ → Outcome → Outcome
-  naming n L o = cond (all_known L) (cond (is_known N z (variable n)) (refused 27) o) (refused 26)
+  naming n L o = cond (all_known L) (cond (is_known N z (variable n)) (refused KnownName) o) (refused UnknownVariable)
 
   -- question 26 of a step that introduces no name, and those after it
   abbrev pub citing : List ℤ → Outcome → Outcome
-  citing L o = cond (all_known L) o (refused 26)
+  citing L o = cond (all_known L) o (refused UnknownVariable)
 
 -- What asks for the rules
 
@@ -66,7 +68,7 @@ module _ (P : List Rule) (z : State) where
   -- `b`: "n names the rule body whose literal set is L; constraint bodies count. Each body is named once."
   abbrev pub body : ℤ → List ℤ → Outcome
   body n L =
-      cond (is_unnamed_body L) (next (define z n L (record { name = variable n; body = ascending L } ∷ z.named))) (refused 28)
+      cond (is_unnamed_body L) (next (define z n L (record { name = variable n; body = ascending L } ∷ z.named))) (refused NoUnnamedBody)
 
   -- `e`: "n is fresh. Adds the same nogoods for a free L."
   abbrev pub extension : ℤ → List ℤ → Outcome
@@ -79,7 +81,7 @@ module _ (P : List Rule) (z : State) where
 
   -- `c`: "Adds n with -h, or n alone."
   abbrev pub completion : ℤ → List ℤ → Outcome
-  completion n hs = cond (is_completion n hs) (next (add z (ascending (n ∷ map complement hs) ∷ []))) (refused 29)
+  completion n hs = cond (is_completion n hs) (next (add z (ascending (n ∷ map complement hs) ∷ []))) (refused NoCompletion)
 
   -- the names of the external bodies
   abbrev pub external_names : List ℤ → List ℕ
@@ -91,7 +93,7 @@ module _ (P : List Rule) (z : State) where
 
   -- `a`: "Accepted exactly when A has a literal and its complement, or the empty nogood is live. Adds L."
   abbrev pub addition : List ℤ → Outcome
-  addition L = cond (refuted z.live L) (next (add z (ascending L ∷ []))) (refused 33)
+  addition L = cond (refuted z.live L) (next (add z (ascending L ∷ []))) (refused NoConflict)
 
   -- `d`: "removes the oldest live nogood equal to L as a set; none equal, nothing changes." "A known variable stays known after
   -- deletions."
@@ -112,7 +114,7 @@ module _ (N : ℕ) (P : List Rule) (z : State) where
 
   -- `s`: "Adds h with every -n."
   abbrev pub support : ℤ → List ℤ → Outcome
-  support h ns = cond (is_support h ns) (next (add z (ascending (h ∷ map complement ns) ∷ []))) (refused 30)
+  support h ns = cond (is_support h ns) (next (add z (ascending (h ∷ map complement ns) ∷ []))) (refused NoSupport)
 
   -- `l`: "a set U of atoms .. Adds the first h with minus the name of each." Change 5: "A set that is no loop is refused with 56,
   -- asked right after question 31."
@@ -121,30 +123,30 @@ module _ (N : ℕ) (P : List Rule) (z : State) where
       cond (all_atoms N z (h ∷ hs))
       (cond (is_loop P (h ∷ hs))
       (cond (all_named P z (h ∷ hs))
-      (next (add z (ascending (h ∷ map (λ n. neg_ℤ (pos n)) (external_names P z (h ∷ hs))) ∷ []))) (refused 32))
-      (refused 56))
-      (refused 31)
+      (next (add z (ascending (h ∷ map (λ n. neg_ℤ (pos n)) (external_names P z (h ∷ hs))) ∷ []))) (refused UnnamedBody))
+      (refused NoLoop))
+      (refused NoAtoms)
 
   -- questions 26 to 33, by letter; the cases without a first number are those of question 24
   abbrev pub by_letter : Letter → List ℤ → Outcome
   by_letter Addition L = citing N z L (addition P z L)
-  by_letter Body [] = refused 24
+  by_letter Body [] = refused WrongSigns
   by_letter Body (n ∷ L) = naming N z n L (body P z n L)
-  by_letter Completion [] = refused 24
+  by_letter Completion [] = refused WrongSigns
   by_letter Completion (n ∷ hs) = citing N z (n ∷ hs) (completion P z n hs)
   by_letter Deletion L = citing N z L (deletion P z L)
-  by_letter Extension [] = refused 24
+  by_letter Extension [] = refused WrongSigns
   by_letter Extension (n ∷ L) = naming N z n L (extension P z n L)
-  by_letter Loop [] = refused 24
+  by_letter Loop [] = refused WrongSigns
   by_letter Loop (h ∷ hs) = citing N z (h ∷ hs) (loop h hs)
-  by_letter Support [] = refused 24
+  by_letter Support [] = refused WrongSigns
   by_letter Support (h ∷ ns) = citing N z (h ∷ ns) (support h ns)
 
   -- questions 22 to 33, "The first "no" decides": 22 asks of a line's numbers that none is 0
   abbrev pub step : Step → Outcome
   step t =
-      cond (has (pos 0) t.numbers) (refused 22)
-      (elim (line_refusal t.letter t.numbers) [ some k ↦ refused k | none ↦ by_letter t.letter t.numbers ])
+      cond (has (pos 0) t.numbers) (refused Malformed)
+      (elim (line_refusal t.letter t.numbers) [ Some k ↦ refused k | None ↦ by_letter t.letter t.numbers ])
 
 -- "Each step gets all three as the one before left them, and nothing else writes them."
 abbrev pub steps : ℕ → List Rule → State → List Step → Outcome

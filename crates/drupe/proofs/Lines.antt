@@ -1,17 +1,16 @@
 -- Laws of `line_at` and its parts: which answer each test leads to, and what an answered line passed.
 -- Assumes nothing.
 use mathlib.Core.Path.{◌≡◌, refl, sym, ap, ◌∙◌, subst}
-use mathlib.Core.Bool.{Bool, true, false, cond, not, ◌&&◌, ◌||◌, true≢false}
-use mathlib.Core.Option.{Option, none, some}
+use mathlib.Core.Bool.{Bool, true, false, cond, not, ◌&&◌, ◌||◌}
+use Rattle.std.specs.Prelude.{Option, None, Some}
 use mathlib.Core.List.{List, [], ◌∷◌}
 use Prim.Native.Nat.{ℕ, suc, ◌+◌, ◌-◌, ◌<◌, ◌≤◌, max}
 use native.Mathlib.Omega.{arith}
 use lib.IntN.{ℤ, pos}
 use lib.Dec.{ltb, eqb}
-use lib.ListN.{length, take, drop, get_or, length-drop, drop_of_length-le}
+use lib.ListN.{length, take, drop, length-drop, drop_of_length-le}
 use borrow.Author.Tests.{le-ltb, lt-ltb, ltb-true, ltb-false, eq-eqb, ne_eqb}
 use Rattle.words.specs.Limits.{largest, longest, most_numbers}
-use Rattle.words.specs.Lists.{all}
 use Rattle.words.specs.Literals.{distinct, same, has, top, variable}
 use Rattle.words.proofs.Lists.{if-true, failed, not-decides, and_left, and_right, or-false-right}
 use Rattle.words.proofs.Literals.{same-decides}
@@ -21,33 +20,12 @@ use Rattle.text.proofs.Lines.{bounds_of}
 use Rattle.text.specs.declared.Letter.{Letter}
 use Rattle.text.specs.declared.Class.{Class}
 use Rattle.text.specs.declared.Class.TheVariants.{Newline, Space, Minus, Digit, Step, Other}
-use Rattle.drupe.specs.Lines.{signs_of, is_positive, signed, line_refusal, all_passed, LineAt, end, refused, line, refused_or, line_asked, of_numbers, is_space, after_letter, after_first, line_from, line_at, line_read, line_answer, numbers_of, AnswerBounds, ProofLineRead}
-use Rattle.drupe.specs.declared.Signs.{Signs}
-use Rattle.drupe.specs.declared.LineAnswer.{LineAnswer}
+use Rattle.drupe.specs.Lines.{signs_of, signed, line_refusal, all_passed, LineAt, end, refused, line, refused_or, line_asked, of_numbers, is_space, after_letter, after_first, line_from, line_at, line_read, line_answer, numbers_of, AnswerBounds, ProofLineRead}
+use Rattle.drupe.specs.declared.ProofLine.{ProofLine}
+use Rattle.drupe.specs.declared.ProofFault.{ProofFault}
 use Rattle.drupe.specs.declared.LineReading.{LineReading}
-
--- Signs
-
-pub signed-none : (k : Signs) (zs : List ℤ) → length zs ≡ 0 → signed k zs ≡ not k.needed
-signed-none k [] e = refl
-signed-none k (z ∷ zs) e = absurd (omega arith)
-
-pub signed-some : (k : Signs) (zs : List ℤ) → (length zs ≡ 0 → ⊥)
-    → signed k zs ≡ ((not k.first || is_positive (get_or zs 0 (pos 0))) && (not k.later || all is_positive (drop 1 zs)))
-signed-some k [] e = absurd (e refl)
-signed-some k (z ∷ zs) e = refl
-
--- Questions 24 and 25, of numbers that passed 23
-
-module _ (x : Letter) (zs : List ℤ) (next : ℕ) (inside : any_outside zs ≡ false) (few : length zs ≤ most_numbers) where
-  pub asked-24 : signed (signs_of x) zs ≡ false → line_asked x zs next ≡ refused 24
-  asked-24 e = rw (inside, le-ltb most_numbers (length zs) few, e)
-
-  pub asked-25 : signed (signs_of x) zs ≡ true → distinct zs ≡ false → line_asked x zs next ≡ refused 25
-  asked-25 e d = rw (inside, le-ltb most_numbers (length zs) few, e, d)
-
-  pub asked-line : signed (signs_of x) zs ≡ true → distinct zs ≡ true → line_asked x zs next ≡ line x zs next
-  asked-line e d = rw (inside, le-ltb most_numbers (length zs) few, e, d)
+use Rattle.std.specs.Prelude.{Result}
+use Rattle.drupe.specs.declared.ProofFault.TheVariants.{TooLong, Malformed, OutOfRange, WrongSigns, RepeatedVariable}
 
 -- Questions 23 to 25 together
 
@@ -64,7 +42,7 @@ pub good-parts : (x : Letter) (zs : List ℤ) {a b s d : Bool} → ltb largest (
     → all_passed (line_refusal x zs) ≡ (not b && (not a && (s && d)))
 good-parts x zs {a} {b} {s} {d} p q r e = rw (outside-top zs, p, q, r, e) (by a b s d)
   where
-    by : (a b s d : Bool) → all_passed (cond (a || b) (some 23) (cond s (cond d none (some 25)) (some 24))) ≡ (not b && (not a && (s && d)))
+    by : (a b s d : Bool) → all_passed (cond (a || b) (Some OutOfRange) (cond s (cond d None (Some RepeatedVariable)) (Some WrongSigns))) ≡ (not b && (not a && (s && d)))
     by true true s d = refl
     by true false s d = refl
     by false true s d = refl
@@ -73,10 +51,6 @@ good-parts x zs {a} {b} {s} {d} p q r e = rw (outside-top zs, p, q, r, e) (by a 
     by false false false d = refl
 
 -- The numbers before a closing 0
-
-pub closed_some : (zs : List ℤ) → is_closed zs ≡ true → 0 < length zs
-closed_some [] e = absurd (true≢false (sym e))
-closed_some (z ∷ zs) e = omega arith
 
 pub outside-before : (zs : List ℤ) → is_closed zs ≡ true → any_outside (take (length zs - 1) zs) ≡ any_outside zs
 outside-before [] e = refl
@@ -95,29 +69,6 @@ zero-before (z ∷ y ∷ zs) e =
     let g : same (pos 0) z ≡ false = failed _ ((not-decides (same-decides (pos 0) z)).from (λ p. f (sym p))) in
     rw (h, g) (zero-before (y ∷ zs) (and_right (not (same z (pos 0))) (is_closed (y ∷ zs)) e))
 
--- The first two bytes
-
-module _ (x : Letter) (from : ℕ) where
-  pub after-empty : (s : List ℕ) → length s ≡ 0 → after_letter x from s ≡ refused 22
-  after-empty [] e = refl
-  after-empty (b ∷ s) e = absurd (omega arith)
-
-  pub after-other : (s : List ℕ) → is_space (class_of (get_or s 0 0)) ≡ false → after_letter x from s ≡ refused 22
-  after-other [] e = refl
-  after-other (b ∷ s) e = rw e
-
-  pub after-space : (s : List ℕ) → (length s ≡ 0 → ⊥) → is_space (class_of (get_or s 0 0)) ≡ true → after_letter x from s ≡ of_numbers x (from + 1) (line_of (drop 1 s))
-  after-space [] h e = absurd (h refl)
-  after-space (b ∷ s) h e = rw e
-
-pub line-empty : (from : ℕ) (s : List ℕ) → length s ≡ 0 → line_from from s ≡ refused 22
-line-empty from [] e = refl
-line-empty from (b ∷ s) e = absurd (omega arith)
-
-pub line_first : (from : ℕ) (s : List ℕ) (k : Class) → (length s ≡ 0 → ⊥) → class_of (get_or s 0 0) ≡ k → line_from from s ≡ after_first k (from + 1) (drop 1 s)
-line_first from [] k h e = absurd (h refl)
-line_first from (b ∷ s) k h e = rw e
-
 -- The position
 
 module _ (s : List ℕ) (at : ℕ) where
@@ -127,13 +78,13 @@ module _ (s : List ℕ) (at : ℕ) where
   pub at-line : (at ≡ length s → ⊥) → line_at s at ≡ line_from at (drop at s)
   at-line k = rw (ne_eqb at (length s) k)
 
-  pub at-past : length s < at → line_at s at ≡ refused 22
+  pub at-past : length s < at → line_at s at ≡ refused Malformed
   at-past l =
       let e : drop at s ≡ [] = drop_of_length-le s {i = at} (omega arith) in
       rw (ne_eqb at (length s) (λ k. omega arith), e)
 
   -- question 21
-  pub read-long : longest < length s → line_read s at ≡ refused 21
+  pub read-long : longest < length s → line_read s at ≡ refused TooLong
   read-long h = rw (lt-ltb longest (length s) h)
 
   pub read_short : length s ≤ longest → line_read s at ≡ line_at s at
@@ -145,17 +96,17 @@ module _ (s : List ℕ) (at : ℕ) where
 abbrev pub Passed : ℕ → ℕ → LineAt → Type 0
 Passed at n end = Unit {0}
 Passed at n (refused k) = Unit {0}
-Passed at n (line x zs next) = (at < next) × (next ≤ n) × (line_refusal x zs ≡ none) × (has (pos 0) zs ≡ false)
+Passed at n (line x zs next) = (at < next) × (next ≤ n) × (line_refusal x zs ≡ None) × (has (pos 0) zs ≡ false)
 
 module _ (at n : ℕ) where
   asked-passed : (x : Letter) (zs : List ℤ) (next : ℕ) → at < next → next ≤ n → has (pos 0) zs ≡ false → Passed at n (line_asked x zs next)
   asked-passed x zs next h l f = by (line_refusal x zs) refl
     where
-      by : (o : Option ℕ) → line_refusal x zs ≡ o → Passed at n (refused_or o (line x zs next))
-      by none e = (h, l, e, f)
-      by (some k) e = tt
+      by : (o : Option ProofFault) → line_refusal x zs ≡ o → Passed at n (refused_or o (line x zs next))
+      by None e = (h, l, e, f)
+      by (Some k) e = tt
 
-  cond-passed : (t : Bool) (l : LineAt) → (t ≡ true → Passed at n l) → Passed at n (cond t l (refused 22))
+  cond-passed : (t : Bool) (l : LineAt) → (t ≡ true → Passed at n l) → Passed at n (cond t l (refused Malformed))
   cond-passed true l p = p refl
   cond-passed false l p = tt
 
@@ -193,14 +144,14 @@ passed s at = by (eqb at (length s))
     by false = line-passed at (length s) (drop at s) (length-drop at s)
 
 pub passed-line : (s : List ℕ) (at : ℕ) {x : Letter} {zs : List ℤ} {next : ℕ} → line_at s at ≡ line x zs next
-    → (at < next) × (next ≤ length s) × (line_refusal x zs ≡ none) × (has (pos 0) zs ≡ false)
+    → (at < next) × (next ≤ length s) × (line_refusal x zs ≡ None) × (has (pos 0) zs ≡ false)
 passed-line s at e = subst (Passed at (length s)) e (passed s at)
 
 -- no more numbers than the array has
-pub few : (x : Letter) (zs : List ℤ) → line_refusal x zs ≡ none → length zs ≤ most_numbers
+pub few : (x : Letter) (zs : List ℤ) → line_refusal x zs ≡ None → length zs ≤ most_numbers
 few x zs e = by (any_outside zs || ltb most_numbers (length zs)) _ refl e
   where
-    by : (t : Bool) (o : Option ℕ) → (any_outside zs || ltb most_numbers (length zs)) ≡ t → cond t (some 23) o ≡ none → length zs ≤ most_numbers
+    by : (t : Bool) (o : Option ProofFault) → (any_outside zs || ltb most_numbers (length zs)) ≡ t → cond t (Some OutOfRange) o ≡ None → length zs ≤ most_numbers
     by true o k e = absurd (let z : ◌≡◌ {A = ℕ} 0 1 = cc in omega arith)
     by false o k e = ltb-false most_numbers (length zs) (or-false-right (any_outside zs) (ltb most_numbers (length zs)) k)
 
@@ -209,7 +160,7 @@ within at n end p = tt
 within at n (refused k) p = tt
 within at n (line x zs next) p = (p.0, p.1, few x zs p.2)
 
-pub answer-within : (s : List ℕ) (at : ℕ) {r : LineAnswer} → r ≡ line_answer (line_at s at) → AnswerBounds at (length s) r
+pub answer-within : (s : List ℕ) (at : ℕ) {r : Result (Option ProofLine) ProofFault} → r ≡ line_answer (line_at s at) → AnswerBounds at (length s) r
 answer-within s at e = subst (AnswerBounds at (length s)) (sym e) (within at (length s) (line_at s at) (passed s at))
 
 -- what `read_line` says of a text that passes 21, and of one that does not
@@ -218,9 +169,3 @@ pub reads_of : {s : List ℕ} {at : ℕ} {r : LineReading} → length s ≤ long
 reads_of {s} {at} h e n =
     let q = sym (read_short s at h) in
     record { answer = e ∙ ap line_answer q; numbers = n ∙ ap numbers_of q; within = answer-within s at e }
-
-pub reads-long : {s : List ℕ} {at : ℕ} {r : LineReading} → longest < length s → r.answer ≡ line_answer (refused 21) → r.numbers ≡ numbers_of (refused 21)
-    → ProofLineRead s at r
-reads-long {s} {at} h e n =
-    let q = sym (read-long s at h) in
-    record { answer = e ∙ ap line_answer q; numbers = n ∙ ap numbers_of q; within = subst (AnswerBounds at (length s)) (sym e) tt }

@@ -2,12 +2,12 @@
 -- Assumes nothing.
 use mathlib.Core.Path.{◌≡◌, refl, sym, ap, ◌∙◌, subst}
 use mathlib.Core.Bool.{Bool, true, false}
-use mathlib.Core.Option.{Option, none, some}
-use mathlib.Core.List.{List, [], ◌∷◌, ◌++◌, append-nil}
+use Rattle.std.specs.Prelude.{Option, None, Some}
+use mathlib.Core.List.{List, [], ◌∷◌, ◌++◌}
 use Prim.Native.Nat.{ℕ, ◌+◌, ◌-◌, ◌<◌, ◌≤◌}
 use native.Mathlib.Omega.{arith}
 use lib.IntN.{ℤ, pos}
-use lib.ListN.{length, take, drop, get_or, set, replicate, length-replicate, drop_of_length-le}
+use lib.ListN.{length, take, drop, get_or, set, replicate, length-replicate}
 use lib.Seq.{sets, sets-eq, set-get_or, take-set-le, take-append_seam, length-take-le, get_or-append-add}
 use Rattle.words.specs.Limits.{most_numbers}
 use Rattle.words.specs.Literals.{ascending}
@@ -18,14 +18,12 @@ use Rattle.text.proofs.Lines.{capped-all, Numbered}
 use Rattle.text.specs.declared.Letter.{Letter}
 use Rattle.drupe.specs.Lines.{line_refusal, LineAt, end, refused, line, refused_or, line_asked, line_at, line_answer, numbers_of, AnswerBounds}
 use Rattle.drupe.specs.Rows.{InRows, Written, ReadInto, LineInto}
-use Rattle.drupe.specs.declared.LineAnswer.{LineAnswer}
-use Rattle.drupe.specs.declared.LineAnswer.TheVariants.{Line as Answered, End, Refused}
+use Rattle.text.specs.declared.Letter.TheVariants.{Addition}
+use Rattle.drupe.specs.declared.ProofLine.{ProofLine}
+use Rattle.drupe.specs.declared.ProofFault.{ProofFault}
 use Rattle.drupe.proofs.Lines.{Passed, passed, few, answer-within}
 use Rattle.drupe.proofs.Texts.{end-closed}
-
--- a row of as many words that is written over
-pub copied : (xs ys : List ℤ) {zs : List ℤ} → length ys ≡ length xs → zs ≡ xs ++ drop (length xs) ys → zs ≡ xs
-copied xs ys h e = e ∙ rw (drop_of_length-le ys {i = length xs} (omega arith)) (append-nil xs)
+use Rattle.std.specs.Prelude.{Result, Ok, Err}
 
 -- Numbers and the closing 0, from a row's front on
 
@@ -68,76 +66,68 @@ module _ {s : List ℕ} {row after : List ℤ} {count next : ℕ} {out closed : 
 -- Answers
 
 module _ {before numbers sorted : List ℤ} where
-  pub into-refused : {l : LineAt} (k : ℕ) → l ≡ refused k → LineInto l before numbers sorted (Refused k)
+  pub into-refused : {l : LineAt} (k : ProofFault) → l ≡ refused k → LineInto l before numbers sorted (Err k)
   into-refused k e = rw e (record { answer = refl; rows = tt; row = tt })
 
-  pub into-end : {l : LineAt} → l ≡ end → LineInto l before numbers sorted End
+  pub into-end : {l : LineAt} → l ≡ end → LineInto l before numbers sorted (Ok None)
   into-end e = rw e (record { answer = refl; rows = tt; row = tt })
 
-  pub into-same : {l m : LineAt} {r : LineAnswer} → l ≡ m → LineInto m before numbers sorted r → LineInto l before numbers sorted r
+  pub into-same : {l m : LineAt} {r : Result (Option ProofLine) ProofFault} → l ≡ m → LineInto m before numbers sorted r → LineInto l before numbers sorted r
   into-same e h = rw e h
 
-  pub into-asked : (x : Letter) (zs : List ℤ) (next : ℕ) {r : LineAnswer} → r ≡ line_answer (line_asked x zs next) → length zs ≤ length before
+  pub into-asked : (x : Letter) (zs : List ℤ) (next : ℕ) {r : Result (Option ProofLine) ProofFault} → r ≡ line_answer (line_asked x zs next) → length zs ≤ length before
       → numbers ≡ sets before 0 (zs ++ (pos 0 ∷ [])) → take (length zs) sorted ≡ ascending zs → LineInto (line_asked x zs next) before numbers sorted r
   into-asked x zs next e h p q = by (line_refusal x zs) e
     where
-      by : (o : Option ℕ) {r : LineAnswer} → r ≡ line_answer (refused_or o (line x zs next)) → LineInto (refused_or o (line x zs next)) before numbers sorted r
-      by none e = record { answer = e; rows = (rw p (front-written zs before h), q); row = p }
-      by (some k) e = record { answer = e; rows = tt; row = tt }
+      by : (o : Option ProofFault) {r : Result (Option ProofLine) ProofFault} → r ≡ line_answer (refused_or o (line x zs next)) → LineInto (refused_or o (line x zs next)) before numbers sorted r
+      by None e = record { answer = e; rows = (rw p (front-written zs before h), q); row = p }
+      by (Some k) e = record { answer = e; rows = tt; row = tt }
 
-  pub into-text : {s : List ℕ} {at : ℕ} {r : LineAnswer} → LineInto (line_at s at) before numbers sorted r → ReadInto s at before numbers sorted r
+  pub into-text : {s : List ℕ} {at : ℕ} {r : Result (Option ProofLine) ProofFault} → LineInto (line_at s at) before numbers sorted r → ReadInto s at before numbers sorted r
   into-text {s} {at} i = record { answer = i.answer; rows = i.rows; row = i.row; within = answer-within s at i.answer }
 
 -- For a caller
 
--- what an answer with its numbers says
-abbrev pub line_told : LineAnswer → List ℤ → LineAt
-line_told End zs = end
-line_told (Refused k) zs = refused k
-line_told (Answered x count next) zs = line x (take count zs) next
+-- the line that is answered
+abbrev line_in : Result (Option ProofLine) ProofFault → ProofLine
+line_in (Ok (Some l)) = l
+line_in (Ok None) = record { letter = Addition; count = 0; next = 0 }
+line_in (Err k) = record { letter = Addition; count = 0; next = 0 }
 
-module _ {s : List ℕ} {at : ℕ} {before numbers sorted : List ℤ} {r : LineAnswer} (R : ReadInto s at before numbers sorted r) where
-  pub into-told : {a : LineAnswer} → r ≡ a → line_at s at ≡ line_told a numbers
-  into-told e = by (line_at s at) R.rows ∙ ap (λ (a : LineAnswer). line_told a numbers) (sym R.answer ∙ e)
+-- what an answer with its numbers says
+abbrev pub line_told : Result (Option ProofLine) ProofFault → List ℤ → LineAt
+line_told (Ok None) zs = end
+line_told (Err k) zs = refused k
+line_told (Ok (Some l)) zs = line l.letter (take l.count zs) l.next
+
+module _ {s : List ℕ} {at : ℕ} {before numbers sorted : List ℤ} {r : Result (Option ProofLine) ProofFault} (R : ReadInto s at before numbers sorted r) where
+  pub into-told : {a : Result (Option ProofLine) ProofFault} → r ≡ a → line_at s at ≡ line_told a numbers
+  into-told e = by (line_at s at) R.rows ∙ ap (λ (a : Result (Option ProofLine) ProofFault). line_told a numbers) (sym R.answer ∙ e)
     where
       by : (l : LineAt) → InRows l numbers sorted → l ≡ line_told (line_answer l) numbers
       by end w = refl
       by (refused k) w = refl
       by (line x zs next) w = ap (λ (l : List ℤ). line x l next) (sym w.0)
 
-  pub into-sorted : {x : Letter} {count next : ℕ} → r ≡ Answered x count next → take count sorted ≡ ascending (take count numbers)
+  pub into-sorted : {x : Letter} {count next : ℕ} → r ≡ Ok (Some (record { letter = x; count = count; next = next })) → take count sorted ≡ ascending (take count numbers)
   into-sorted {x} {count} {next} e = by (line_at s at) (sym R.answer ∙ e) R.rows
     where
-      by : (l : LineAt) → line_answer l ≡ Answered x count next → InRows l numbers sorted → take count sorted ≡ ascending (take count numbers)
+      by : (l : LineAt) → line_answer l ≡ Ok (Some (record { letter = x; count = count; next = next })) → InRows l numbers sorted → take count sorted ≡ ascending (take count numbers)
       by end e w = absurd (zero_one cc)
       by (refused k) e w = absurd (zero_one cc)
-      by (line y zs n) e w = let c : length zs ≡ count = cc in rw (← c, w.0) w.1
+      by (line y zs n) e w = let c : length zs ≡ count = ap (λ a. (line_in a).count) e in rw (← c, w.0) w.1
 
-  pub into-room : {x : Letter} {count next : ℕ} → r ≡ Answered x count next → (at < next) × (next ≤ length s) × (count ≤ most_numbers)
+  pub into-room : {x : Letter} {count next : ℕ} → r ≡ Ok (Some (record { letter = x; count = count; next = next })) → (at < next) × (next ≤ length s) × (count ≤ most_numbers)
   into-room e = subst (AnswerBounds at (length s)) e R.within
 
 -- For `read_line`, whose row was zeros
 
--- an answer that has no numbers
-abbrev pub Bare : LineAnswer → Type 0
-Bare End = Unit {0}
-Bare (Refused k) = Unit {0}
-Bare (Answered x count next) = ⊥
-
-module _ (s : List ℕ) (at : ℕ) {r : LineAnswer} where
-  pub numbers-read : {numbers sorted : List ℤ} {x : Letter} {count next : ℕ} → ReadInto s at (replicate most_numbers (pos 0)) numbers sorted r → r ≡ Answered x count next
+module _ (s : List ℕ) (at : ℕ) {r : Result (Option ProofLine) ProofFault} where
+  pub numbers-read : {numbers sorted : List ℤ} (l : ProofLine) → ReadInto s at (replicate most_numbers (pos 0)) numbers sorted r → r ≡ Ok (Some l)
       → numbers ≡ numbers_of (line_at s at)
-  numbers-read {numbers} {sorted} {x} {count} {next} i e = by (line_at s at) (passed s at) i.answer i.row
+  numbers-read {numbers} {sorted} x i e = by (line_at s at) (passed s at) i.answer i.row
     where
       by : (l : LineAt) → Passed at (length s) l → r ≡ line_answer l → Written l (replicate most_numbers (pos 0)) numbers → numbers ≡ numbers_of l
       by end p a w = absurd (zero_one cc)
       by (refused k) p a w = absurd (zero_one cc)
       by (line y zs n) p a w = w ∙ zeros-written zs most_numbers (few y zs p.2)
-
-  pub none_read : r ≡ line_answer (line_at s at) → (b : LineAnswer) → r ≡ b → Bare b → numbers_of (line_at s at) ≡ replicate most_numbers (pos 0)
-  none_read e b q u = by (line_at s at) (subst Bare (sym q ∙ e) u)
-    where
-      by : (l : LineAt) → Bare (line_answer l) → numbers_of l ≡ replicate most_numbers (pos 0)
-      by end u = refl
-      by (refused k) u = refl
-      by (line x zs next) u = absurd u

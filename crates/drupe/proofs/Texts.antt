@@ -2,7 +2,7 @@
 -- Assumes nothing.
 use mathlib.Core.Path.{◌≡◌, refl, sym, ◌∙◌, ap, subst}
 use mathlib.Core.Bool.{Bool, true, false, cond, not, true≢false}
-use mathlib.Core.Option.{Option, none, some}
+use Rattle.std.specs.Prelude.{Option, None, Some}
 use mathlib.Core.Logic.{◌⊎◌, inl, inr}
 use mathlib.Core.List.Memᴰ
 use mathlib.Core.List.{List, [], ◌∷◌, ◌++◌, append-nil, append_assoc}
@@ -29,6 +29,8 @@ use Rattle.drupe.specs.Lines.{line_refusal, LineAt, end, line, refused_or, of_nu
 use Rattle.drupe.specs.Lines as Lines
 use Rattle.drupe.specs.Texts.{Step, step_text, text_of, StepsRead, steps, refused, after, steps_at, steps_within, LinePasses, Spelled, ReadBack, StepsExact, Stops, RefusedExact, SameWithin}
 use Rattle.drupe.proofs.Lines.{at-end, at-line, passed-line}
+use Rattle.drupe.specs.declared.ProofFault.TheVariants.{TooLong, Malformed}
+use Rattle.drupe.specs.declared.ProofFault.{ProofFault}
 
 -- The closing 0
 
@@ -109,7 +111,7 @@ Spelt s end = ⊥
 Spelt s (Lines.refused k) = Unit {0}
 Spelt s (line x zs next) = (r : List ℕ) × (s ≡ step_text (record { letter = x; numbers = zs }) ++ r)
 
-cond-spelt : (s : List ℕ) (t : Bool) (l : LineAt) → (t ≡ true → Spelt s l) → Spelt s (cond t l (Lines.refused 22))
+cond-spelt : (s : List ℕ) (t : Bool) (l : LineAt) → (t ≡ true → Spelt s l) → Spelt s (cond t l (Lines.refused Malformed))
 cond-spelt s true l f = f refl
 cond-spelt s false l f = tt
 
@@ -127,9 +129,9 @@ numbers-spelt x from s = by (line_of s) refl
     S : List ℕ
     S = byte_of x ∷ 32 ∷ s
 
-    asks : (o : Option ℕ) (zs : List ℤ) (next : ℕ) → (r : List ℕ) × (S ≡ step_text (record { letter = x; numbers = zs }) ++ r) → Spelt S (refused_or o (line x zs next))
-    asks (some k) zs next f = tt
-    asks none zs next f = f
+    asks : (o : Option ProofFault) (zs : List ℤ) (next : ℕ) → (r : List ℕ) × (S ≡ step_text (record { letter = x; numbers = zs }) ++ r) → Spelt S (refused_or o (line x zs next))
+    asks (Some k) zs next f = tt
+    asks None zs next f = f
 
     by : (l : Line) → line_of s ≡ l → Spelt S (of_numbers x from l)
     by broken e = tt
@@ -221,7 +223,7 @@ behind-steps : (ts us : List Step) → behind ts (steps us) ≡ steps (ts ++ us)
 behind-steps [] us = refl
 behind-steps (t ∷ ts) us = ap (after t) (behind-steps ts us)
 
-behind-refused : (ts us : List Step) (k n : ℕ) → behind ts (refused us k n) ≡ refused (ts ++ us) k n
+behind-refused : (ts us : List Step) (k : ProofFault) (n : ℕ) → behind ts (refused us k n) ≡ refused (ts ++ us) k n
 behind-refused [] us k n = refl
 behind-refused (t ∷ ts) us k n = ap (after t) (behind-refused ts us k n)
 
@@ -316,7 +318,7 @@ module _ (text : List ℕ) where
     unfolding steps_at
     whole-end q = turn (steps []) (λ turns. rw (q, steps_at)) ∙ behind-steps ts [] ∙ ap steps (append-nil ts)
 
-    pub whole-refused : (k : ℕ) → line_at text (length (text_of ts)) ≡ Lines.refused k → all_steps text ≡ refused ts k (length ts + 1)
+    pub whole-refused : (k : ProofFault) → line_at text (length (text_of ts)) ≡ Lines.refused k → all_steps text ≡ refused ts k (length ts + 1)
     unfolding steps_at
     whole-refused k q =
         turn (refused [] k (length ts + 1)) (λ turns. rw (q, steps_at)) ∙ behind-refused ts [] k (length ts + 1) ∙ ap (λ (l : List Step). refused l k (length ts + 1)) (append-nil ts)
@@ -328,7 +330,7 @@ module _ (limit : ℕ) (text : List ℕ) where
   unfolding steps_within
   short-steps h = rw (le-ltb limit (length text) h)
 
-  pub long-steps : limit < length text → steps_within limit text ≡ refused [] 21 0
+  pub long-steps : limit < length text → steps_within limit text ≡ refused [] TooLong 0
   unfolding steps_within
   long-steps h = rw (lt-ltb limit (length text) h)
 
@@ -361,12 +363,12 @@ pub refused-exact : RefusedExact
 refused-exact limit text before k n = (to, from)
   where
     Long : Type 0
-    Long = (limit < length text) × ((before ≡ []) × ((k ≡ 21) × (n ≡ 0)))
+    Long = (limit < length text) × ((before ≡ []) × ((k ≡ TooLong) × (n ≡ 0)))
 
     Short : Type 0
     Short = (length text ≤ limit) × ((n ≡ length before + 1) × Stops text before k)
 
-    same : refused [] 21 0 ≡ refused before k n → (before ≡ []) × ((k ≡ 21) × (n ≡ 0))
+    same : refused [] TooLong 0 ≡ refused before k n → (before ≡ []) × ((k ≡ TooLong) × (n ≡ 0))
     same e = (cc, (cc, cc))
 
     to : steps_within limit text ≡ refused before k n → Long ⊎ Short
@@ -424,6 +426,6 @@ module _ {text : List ℕ} {at n : ℕ} {before : List Step} (w : Walked text at
   pub walked_end : line_at text at ≡ end → all_steps text ≡ steps before
   walked_end e = whole-end text before w.passes (drop at text) w.spelled (rw w.place at e)
 
-  pub walked-refused : (k : ℕ) → line_at text at ≡ Lines.refused k → all_steps text ≡ refused before k (n + 1)
+  pub walked-refused : (k : ProofFault) → line_at text at ≡ Lines.refused k → all_steps text ≡ refused before k (n + 1)
   walked-refused k e =
       whole-refused text before w.passes (drop at text) w.spelled k (rw w.place at e) ∙ ap (λ m. refused before k (m + 1)) (sym w.count)

@@ -2,7 +2,7 @@
 -- claimed of the two. proofs/Texts.antt proves the claims.
 -- Assumes nothing.
 use Rattle.std.specs.Prelude.{◌≡◌, ◌↔◌, ◌⊎◌, false, cond, List, [], ◌∷◌, ◌++◌, ℕ, zero, suc, ◌+◌, ◌<◌, ◌≤◌, ltb, ℤ, pos, length}
-use Rattle.std.proofs.Math.Option.{none}
+use Rattle.std.specs.Prelude.{None}
 use Rattle.words.specs.Limits.{longest}
 use Rattle.words.specs.Lists.{◌∈◌}
 use Rattle.words.specs.Literals.{has}
@@ -11,6 +11,8 @@ use Rattle.text.specs.Decimals.{spaced}
 use Rattle.text.specs.declared.Letter.{Letter}
 use Rattle.drupe.specs.Lines.{line_refusal, end, line, line_at}
 use Rattle.drupe.specs.Lines as Lines
+use Rattle.drupe.specs.declared.ProofFault.TheVariants.{TooLong, Malformed}
+use Rattle.drupe.specs.declared.ProofFault.{ProofFault}
 
 -- a step: a line's letter and its numbers as written, without the closing 0
 pub record Step : Type 0 where
@@ -34,7 +36,7 @@ text_of (t ∷ ts) = step_text t ++ text_of ts
 -- number of the question and the step at fault
 pub data StepsRead : Type 0 where
   steps : List Step → StepsRead
-  refused : (before : List Step) (number step : ℕ) → StepsRead
+  refused : (before : List Step) (fault : ProofFault) (step : ℕ) → StepsRead
 
 -- a step before others
 abbrev pub after : Step → StepsRead → StepsRead
@@ -43,7 +45,7 @@ after t (refused ts k n) = refused (t ∷ ts) k n
 
 -- The steps from a position on, after n of them. Each line takes a byte at least, so one turn more than there are bytes is enough.
 unfoldable pub steps_at : List ℕ → (turns at done : ℕ) → StepsRead
-steps_at text zero at n = refused [] 22 (n + 1)
+steps_at text zero at n = refused [] Malformed (n + 1)
 steps_at text (suc turns) at n =
     elim (line_at text at) [
       | end ↦ steps []
@@ -53,7 +55,7 @@ steps_at text (suc turns) at n =
 
 -- Question 21 with so many bytes as the most, then the steps. The whole text is at fault, so the step is 0.
 unfoldable pub steps_within : (limit : ℕ) → List ℕ → StepsRead
-steps_within limit text = cond (ltb limit (length text)) (refused [] 21 0) (steps_at text (suc (length text)) 0 0)
+steps_within limit text = cond (ltb limit (length text)) (refused [] TooLong 0) (steps_at text (suc (length text)) 0 0)
 
 -- "At most 65,535 bytes? 21."
 abbrev pub steps_of : List ℕ → StepsRead
@@ -63,7 +65,7 @@ steps_of text = steps_within longest text
 
 -- a step passes questions 22 to 25
 abbrev pub LinePasses : Step → Type 0
-LinePasses t = (line_refusal t.letter t.numbers ≡ none) × (has (pos 0) t.numbers ≡ false)
+LinePasses t = (line_refusal t.letter t.numbers ≡ None) × (has (pos 0) t.numbers ≡ false)
 
 -- one spelling: a proof text that passes 21 to 25 is the text of its steps
 abbrev pub Spelled : Type 0
@@ -82,7 +84,7 @@ StepsExact =
     → (steps_within limit text ≡ steps ts) ↔ ((text ≡ text_of ts) × (length text ≤ limit) × ((t : Step) → t ∈ ts → LinePasses t))
 
 -- the text goes on after the text of steps that pass with a line that is refused with k
-abbrev pub Stops : List ℕ → List Step → ℕ → Type 0
+abbrev pub Stops : List ℕ → List Step → ProofFault → Type 0
 Stops text before k =
     ((t : Step) → t ∈ before → LinePasses t)
     × ((left : List ℕ) × ((text ≡ text_of before ++ left) × (line_at text (length (text_of before)) ≡ Lines.refused k)))
@@ -91,9 +93,9 @@ Stops text before k =
 -- answered no
 abbrev pub RefusedExact : Type 0
 RefusedExact =
-    (limit : ℕ) (text : List ℕ) (before : List Step) (k n : ℕ)
+    (limit : ℕ) (text : List ℕ) (before : List Step) (k : ProofFault) (n : ℕ)
     → (steps_within limit text ≡ refused before k n)
-    ↔ (((limit < length text) × ((before ≡ []) × ((k ≡ 21) × (n ≡ 0))))
+    ↔ (((limit < length text) × ((before ≡ []) × ((k ≡ TooLong) × (n ≡ 0))))
     ⊎ ((length text ≤ limit) × ((n ≡ length before + 1) × Stops text before k)))
 
 -- a text that is not too long for either of two limits has the same steps under both

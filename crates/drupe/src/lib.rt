@@ -14,21 +14,65 @@ ghost use Rattle.words.specs.Literals.{ascending};
 ghost use Rattle.drupe.specs.Lines.{ProofLineRead, after_letter, all_passed, is_space, line_answer, line_asked, line_from, line_refusal, of_numbers, place_of, signed, signs_of};
 ghost use Rattle.drupe.specs.Rows.{LineInto, ReadInto};
 
-use text::{Class, Letter, LineRead};
+use text::{Class, Letter, LineNumbers};
 use words::MOST_NUMBERS;
 
-// What stands at a position: a line's letter, how many numbers it has and the position after its newline; the end; or the
-// number of the question that is answered no.
-#[derive(Clone, Copy)]
-pub enum LineAnswer {
-    Line {
-        letter: Letter,
-        count: usize,
-        next: usize,
-    },
-    End,
-    Refused(u8),
+// What is wrong with a proof, by the first question that a line or a step fails. `u8::from` gives the question's number.
+#[derive(Clone, Copy, PartialEq, Eq)]
+pub enum ProofFault {
+    TooLong,
+    Malformed,
+    OutOfRange,
+    WrongSigns,
+    RepeatedVariable,
+    UnknownVariable,
+    KnownName,
+    NoUnnamedBody,
+    NoCompletion,
+    NoSupport,
+    NoAtoms,
+    UnnamedBody,
+    NoConflict,
+    StoreFull,
+    NoLoop,
 }
+
+impl From<ProofFault> for u8 {
+    ghost use Rattle.drupe.specs.Numbers.{number_of};
+
+    ghost from_gives = { λ fault number. number ≡ number_of fault };
+
+    fn from(fault: ProofFault) -> u8 {
+        match fault {
+            ProofFault::TooLong => 21,
+            ProofFault::Malformed => 22,
+            ProofFault::OutOfRange => 23,
+            ProofFault::WrongSigns => 24,
+            ProofFault::RepeatedVariable => 25,
+            ProofFault::UnknownVariable => 26,
+            ProofFault::KnownName => 27,
+            ProofFault::NoUnnamedBody => 28,
+            ProofFault::NoCompletion => 29,
+            ProofFault::NoSupport => 30,
+            ProofFault::NoAtoms => 31,
+            ProofFault::UnnamedBody => 32,
+            ProofFault::NoConflict => 33,
+            ProofFault::StoreFull => 34,
+            ProofFault::NoLoop => 56,
+        }
+    }
+}
+
+// A line of a proof: its letter, how many numbers it has and the position after its newline.
+#[derive(Clone, Copy)]
+pub struct ProofLine {
+    pub letter: Letter,
+    pub count: usize,
+    pub next: usize,
+}
+
+// What stands at a position: a line; nothing at the end; or what is wrong with the line.
+pub type LineAnswer = Result<Option<ProofLine>, ProofFault>;
 
 // The numbers stand beside the answer, with zeros after them; all are 0 unless a line is answered.
 #[derive(Drop)]
@@ -67,7 +111,7 @@ const POSITIVE: Signs = Signs {
     later: true,
 };
 
-// By letter: a, b, c, d, e, l, s.
+// By letter: a, b, c, d, e, l, s. A constant table by letter is what the format's document asks for (docs/DECISIONS.md).
 const SIGNS: [Signs; 7] = [SIGNED, NAMED, POSITIVE, SIGNED, NAMED, POSITIVE, POSITIVE];
 
 // The place of a letter in the table.
@@ -97,11 +141,10 @@ fn is_signed(letter: Letter, numbers: &[i32]) -> bool
     ensures { result ≡ signed (signs_of letter) numbers.now }
 {
     let signs = signs_of(letter);
-    if numbers.len() == 0 {
+    let Some((first, later)) = numbers.split_first() else {
         return !signs.needed;
-    }
-    let first = !signs.first | words::is_positive(numbers[0]);
-    first & (!signs.later | words::all_positive(&numbers[1..]))
+    };
+    (!signs.first | words::is_positive(*first)) & (!signs.later | words::all_positive(later))
 }
 
 // Questions 23 to 25. The numbers are left in another order.
@@ -140,16 +183,16 @@ fn ask(letter: Letter, numbers: &[i32], sorted: &mut [i32], next: usize) -> Line
     words::copy(sorted, numbers);
     let distinct = words::sort_distinct(sorted);
     if !is_signed(letter, numbers) {
-        return LineAnswer::Refused(24);
+        return Err(ProofFault::WrongSigns);
     }
     if !distinct {
-        return LineAnswer::Refused(25);
+        return Err(ProofFault::RepeatedVariable);
     }
-    LineAnswer::Line {
+    Ok(Some(ProofLine {
         letter,
         count: numbers.len(),
         next,
-    }
+    }))
 }
 
 // The numbers of a line, which begin at position `from`: the text is what is left there.
@@ -167,48 +210,38 @@ fn read_numbers(
     ensures { LineInto (of_numbers letter from (line_of text.now)) numbers.old numbers.new
         sorted.new result }
 {
-    let read = text::read_line(text, numbers, classes);
-    match read {
-        LineRead::Numbers {
-            count,
-            next,
-            outside,
-            closed,
-        } => {
-            if !closed {
-                return LineAnswer::Refused(22);
-            }
-            if outside {
-                return LineAnswer::Refused(23);
-            }
-            let before = count - 1;
-            if MOST_NUMBERS < before {
-                return LineAnswer::Refused(23);
-            }
-            ask(
-                letter,
-                &numbers[..before],
-                &mut sorted[..before],
-                from + next,
-            )
-        }
-        LineRead::Broken => LineAnswer::Refused(22),
+    let Some(line) = text::read_line(text, numbers, classes) else {
+        return Err(ProofFault::Malformed);
+    };
+    let LineNumbers {
+        count,
+        next,
+        outside,
+        closed,
+    } = line;
+    if !closed {
+        return Err(ProofFault::Malformed);
     }
+    if outside {
+        return Err(ProofFault::OutOfRange);
+    }
+    let before = count - 1;
+    if MOST_NUMBERS < before {
+        return Err(ProofFault::OutOfRange);
+    }
+    ask(
+        letter,
+        &numbers[..before],
+        &mut sorted[..before],
+        from + next,
+    )
 }
 
 fn is_space(b: u8, classes: &[u8; 256]) -> bool
     requires { classes.now ≡ byte_classes }
     ensures { result ≡ is_space (class_of b) }
 {
-    let class = text::class_of(classes, b);
-    match class {
-        Class::Space => true,
-        Class::Newline => false,
-        Class::Minus => false,
-        Class::Digit(_) => false,
-        Class::Step(_) => false,
-        Class::Other => false,
-    }
+    matches!(text::class_of(classes, b), Class::Space)
 }
 
 // The space after the letter, and what follows it.
@@ -227,10 +260,10 @@ fn read_space(
         sorted.new result }
 {
     if text.len() == 0 {
-        return LineAnswer::Refused(22);
+        return Err(ProofFault::Malformed);
     }
     if !is_space(text[0], classes) {
-        return LineAnswer::Refused(22);
+        return Err(ProofFault::Malformed);
     }
     read_numbers(letter, &text[1..], from + 1, classes, numbers, sorted)
 }
@@ -250,23 +283,17 @@ fn read_letter(
         sorted.new result }
 {
     if text.len() == 0 {
-        return LineAnswer::Refused(22);
+        return Err(ProofFault::Malformed);
     }
-    let class = text::class_of(classes, text[0]);
-    match class {
-        Class::Step(letter) => {
-            read_space(letter, &text[1..], from + 1, classes, numbers, sorted)
-        }
-        Class::Newline => LineAnswer::Refused(22),
-        Class::Space => LineAnswer::Refused(22),
-        Class::Minus => LineAnswer::Refused(22),
-        Class::Digit(_) => LineAnswer::Refused(22),
-        Class::Other => LineAnswer::Refused(22),
-    }
+    let Class::Step(letter) = text::class_of(classes, text[0]) else {
+        return Err(ProofFault::Malformed);
+    };
+    read_space(letter, &text[1..], from + 1, classes, numbers, sorted)
 }
 
-// The line of the text that begins at the position, its numbers at the front of one row, and ascending at the front of the other. Question
-// 21 is not put: whoever calls it puts it, with a limit of its own. The rows need not be cleared, and whoever reads line after line makes the table of classes once. Only the reader calls it.
+// The line of the text that begins at the position, its numbers at the front of one row, and ascending at the front of the
+// other. Question 21 is not put: whoever calls it puts it, with a limit of its own. The rows need not be cleared, and whoever
+// reads line after line makes the table of classes once. Only the reader calls it.
 fn read_into(
     text: &[u8],
     position: usize,
@@ -279,10 +306,10 @@ fn read_into(
     ensures { ReadInto text.now position numbers.old numbers.new sorted.new result }
 {
     if position == text.len() {
-        return LineAnswer::End;
+        return Ok(None);
     }
     if text.len() < position {
-        return LineAnswer::Refused(22);
+        return Err(ProofFault::Malformed);
     }
     read_letter(&text[position..], position, classes, numbers, sorted)
 }
@@ -292,15 +319,14 @@ pub fn read_line(text: &[u8], position: usize) -> LineReading
     ensures { ProofLineRead text.now position result }
 {
     if words::LONGEST < text.len() {
-        return unread(LineAnswer::Refused(21));
+        return unread(Err(ProofFault::TooLong));
     }
     let classes = text::classes::CLASSES;
     let mut numbers = [0; MOST_NUMBERS];
     let mut sorted = [0; MOST_NUMBERS];
     let answer = reader::step_at(text, position, &classes, &mut numbers, &mut sorted);
     match answer {
-        LineAnswer::Line { .. } => LineReading { answer, numbers },
-        LineAnswer::End => unread(answer),
-        LineAnswer::Refused(_) => unread(answer),
+        Ok(Some(_)) => LineReading { answer, numbers },
+        Ok(None) | Err(_) => unread(answer),
     }
 }

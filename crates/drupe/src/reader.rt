@@ -13,9 +13,8 @@ fn position_after(answer: LineAnswer, at: usize) -> usize
     ensures { result ≡ position_after answer at }
 {
     match answer {
-        LineAnswer::Line { next, .. } => next,
-        LineAnswer::End => at,
-        LineAnswer::Refused(_) => at,
+        Ok(Some(line)) => line.next,
+        Ok(None) | Err(_) => at,
     }
 }
 

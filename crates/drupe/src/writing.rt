@@ -15,11 +15,9 @@ fn put_numbers(output: &mut [u8], at: usize, numbers: &[i32]) -> usize
     ensures written { Put (spaced numbers.now) output.old output.new at result }
     ensures within { result ≤ at + 22 * most_numbers }
 {
-    let mut i = 0;
     let mut end = at;
-    while i < numbers.len() {
-        end = writing::put_number(output, end, numbers[i]);
-        i += 1;
+    for n in numbers {
+        end = writing::put_number(output, end, *n);
     }
     end
 }

@@ -3,29 +3,26 @@
 -- for which the service's own contract holds, which is an equation; of the others it is said outright. A primed name is
 -- what a lent slice holds afterwards; `answer` is the buffer for the numbers.
 -- Assumes nothing.
-use Rattle.std.specs.Prelude.{◌≡◌, List, ℕ, ℤ, length}
+use Rattle.std.specs.Prelude.{◌≡◌, List, ℕ, ℤ, length, Result}
 use Rattle.std.proofs.lemmas.List.Edits.{sets}
 use Rattle.aspif.specs.Reading.{ProgramRead}
-use Rattle.aspif.specs.declared.ProgramReading.{ProgramReading}
+use Rattle.aspif.specs.declared.ProgramCounts.{ProgramCounts}
+use Rattle.aspif.specs.declared.ProgramRefusal.{ProgramRefusal}
 use Rattle.answer_set.specs.SetTest.{asked, set_answer, marks_of}
 use Rattle.drupe.specs.Lines.{line_read, line_answer, numbers_of}
 use Rattle.packets.specs.Packets.{version_of, reading_of, reading_answer, table_left, text_left, PacketWritten, writing_of, writing_answer, packet_left}
 use Rattle.checker.specs.Check.{CheckedTexts, CheckedLong}
 use Rattle.checker.specs.declared.Verdict.{Verdict}
-use Rattle.splits.specs.Service.{MergedHalves}
-use Rattle.splits.specs.declared.MergeAnswer.{MergeAnswer}
+use Rattle.splits.specs.Service.{MergeAnswer, MergedHalves}
 use Rattle.trees.specs.Service.{MergedTree}
-use Rattle.trimming.specs.Service.{TrimmedProof}
-use Rattle.trimming.specs.declared.TrimAnswer.{TrimAnswer}
-use Rattle.cheapest.specs.Service.{CheckedCheapest}
-use Rattle.cheapest.specs.declared.CheapestAnswer.{CheapestAnswer}
-use Rattle.long_sums.specs.Service.{SplitSums}
-use Rattle.long_sums.specs.declared.SplitAnswer.{SplitAnswer}
+use Rattle.trimming.specs.Service.{TrimAnswer, TrimmedProof}
+use Rattle.cheapest.specs.Service.{CheapestAnswer, CheckedCheapest}
+use Rattle.long_sums.specs.Service.{SplitAnswer, SplitSums}
 use Rattle.exports.specs.Codes.{Told, program_code, program_numbers, set_code, set_numbers, line_code, line_numbers, writing_code, writing_numbers, reading_code, reading_numbers, verdict_code, verdict_numbers, merge_code, merge_numbers, trim_code, trim_numbers, cheapest_code, cheapest_numbers, split_code, split_numbers}
 
 -- the program reader's answer and every word of the table
 pub record ProgramService (text : List ℕ) (table table' : List ℤ) (answer answer' : List ℕ) (result : ℕ) : Type 0 where
-  pub reading : ProgramReading
+  pub reading : Result ProgramCounts ProgramRefusal
   pub read : ProgramRead text table table' reading
   pub told : Told (program_code reading) (program_numbers reading) answer answer' result
 

@@ -1,19 +1,20 @@
-// A service's answer as a code and numbers: specs/Codes.antt. Each function puts the numbers into the lent buffer and returns the
-// code.
+// A service's answer as a code and numbers: specs/Codes.antt. Each function puts the numbers into the lent buffer and
+// returns the code.
 ghost use Rattle.std.specs.Prelude.{◌≡◌, [], ◌∷◌, set};
 ghost use Rattle.std.proofs.lemmas.List.Edits.{sets};
+ghost use Rattle.aspif.specs.Numbers.{number_of};
 ghost use Rattle.exports.specs.Codes.{Told, program_code, program_numbers, set_code, set_numbers, line_code, line_numbers, writing_code, writing_numbers, reading_code, reading_numbers, verdict_code, verdict_numbers, count_numbers, merge_code, merge_numbers, trim_code, trim_numbers, cheapest_code, cheapest_numbers, split_code, split_numbers};
 
-use answer_set::SetAnswer;
-use aspif::ProgramReading;
-use cheapest::CheapestAnswer;
+use answer_set::{SetAnswer, SetFault};
+use aspif::{ProgramCounts, ProgramRefusal, Refusal};
+use cheapest::CheapestFault;
 use checker::{Counts, Verdict};
 use drupe::LineAnswer;
-use long_sums::SplitAnswer;
+use long_sums::{SplitCounts, SplitFault};
 use packets::{PacketReading, PacketWriting};
-use splits::MergeAnswer;
+use splits::MergeFault;
 use text::writing;
-use trimming::TrimAnswer;
+use trimming::TrimFault;
 
 // The codes of the cases to which document 01 gives no number.
 const READ: u32 = 0;
@@ -75,37 +76,42 @@ fn put_counts(answer: &mut [u64], counts: Counts)
     );
 }
 
+// What the program reader refuses: its number is the code, and its line is put.
+fn tell_refused(refusal: ProgramRefusal, answer: &mut [u64]) -> u32
+    ensures { Told (number_of refusal.fault) (refusal.line ∷ 0 ∷ []) answer.old answer.new result }
+{
+    put_two(answer, refusal.line, 0);
+    u32::from(u8::from(refusal.fault))
+}
+
 // The program reader's answer.
-pub fn tell_program(reading: ProgramReading, answer: &mut [u64]) -> u32
+pub fn tell_program(reading: Result<ProgramCounts, ProgramRefusal>, answer: &mut [u64]) -> u32
     ensures { Told (program_code reading) (program_numbers reading) answer.old answer.new result }
 {
     match reading {
-        ProgramReading::Read { atoms, rules } => {
-            put_two(answer, atoms, rules);
+        Ok(counts) => {
+            put_two(answer, counts.atoms, counts.rules);
             READ
         }
-        ProgramReading::Refused(refusal) => {
-            put_two(answer, refusal.line, 0);
-            refusal.number as u32
-        }
+        Err(refusal) => tell_refused(refusal, answer),
     }
 }
 
 // The set test's answer.
-pub fn tell_set(tested: SetAnswer, answer: &mut [u64]) -> u32
+pub fn tell_set(tested: Result<SetAnswer, SetFault>, answer: &mut [u64]) -> u32
     ensures { Told (set_code tested) (set_numbers tested) answer.old answer.new result }
 {
     match tested {
-        SetAnswer::Yes => YES,
-        SetAnswer::Differs(atom) => {
-            put(answer, 0, atom as usize);
+        Ok(SetAnswer::Yes) => YES,
+        Ok(SetAnswer::Differs(atom)) => {
+            put(answer, 0, usize::from(atom));
             DIFFERS
         }
-        SetAnswer::Broken(rule) => {
+        Ok(SetAnswer::Broken(rule)) => {
             put(answer, 0, rule);
             BROKEN
         }
-        SetAnswer::Refused(number) => number as u32,
+        Err(fault) => u32::from(u8::from(fault)),
     }
 }
 
@@ -114,16 +120,12 @@ pub fn tell_line(line: LineAnswer, answer: &mut [u64]) -> u32
     ensures { Told (line_code line) (line_numbers line) answer.old answer.new result }
 {
     match line {
-        LineAnswer::Line {
-            letter,
-            count,
-            next,
-        } => {
-            put_two(answer, count, next);
-            writing::byte_of(letter) as u32
+        Ok(Some(read)) => {
+            put_two(answer, read.count, read.next);
+            u32::from(writing::byte_of(read.letter))
         }
-        LineAnswer::End => END,
-        LineAnswer::Refused(number) => number as u32,
+        Ok(None) => END,
+        Err(fault) => u32::from(u8::from(fault)),
     }
 }
 
@@ -136,7 +138,7 @@ pub fn tell_writing(written: PacketWriting, answer: &mut [u64]) -> u32
             put(answer, 0, bytes);
             WRITTEN
         }
-        PacketWriting::Refused(number) => number as u32,
+        PacketWriting::Refused(number) => u32::from(number),
     }
 }
 
@@ -149,7 +151,7 @@ pub fn tell_reading(read: PacketReading, answer: &mut [u64]) -> u32
             put_two(answer, rules, bytes);
             READ
         }
-        PacketReading::Refused(number) => number as u32,
+        PacketReading::Refused(number) => u32::from(number),
     }
 }
 
@@ -167,85 +169,74 @@ pub fn tell_verdict(verdict: Verdict, answer: &mut [u64]) -> u32
             OPEN
         }
         Verdict::RefusedProgram(refusal) => {
-            put_two(answer, refusal.number as usize, refusal.line);
+            put_two(answer, usize::from(u8::from(refusal.fault)), refusal.line);
             REFUSED_PROGRAM
         }
         Verdict::RefusedProof(refusal) => {
-            put_two(answer, refusal.number as usize, refusal.step);
+            put_two(answer, usize::from(u8::from(refusal.fault)), refusal.step);
             REFUSED_PROOF
         }
     }
 }
 
 // The answer of the merge of two halves, and of a tree.
-pub fn tell_merge(merged: MergeAnswer, answer: &mut [u64]) -> u32
+pub fn tell_merge(merged: Result<usize, Refusal<MergeFault>>, answer: &mut [u64]) -> u32
     ensures { Told (merge_code merged) (merge_numbers merged) answer.old answer.new result }
 {
     match merged {
-        MergeAnswer::Merged(bytes) => {
+        Ok(bytes) => {
             put(answer, 0, bytes);
             WRITTEN
         }
-        MergeAnswer::RefusedProgram(refusal) => {
-            put_two(answer, refusal.line, 0);
-            refusal.number as u32
-        }
-        MergeAnswer::Refused(number) => number as u32,
+        Err(Refusal::Program(refusal)) => tell_refused(refusal, answer),
+        Err(Refusal::Service(fault)) => u32::from(u8::from(fault)),
     }
 }
 
 // The answer of the trimming of a proof.
-pub fn tell_trim(trimmed: TrimAnswer, answer: &mut [u64]) -> u32
+pub fn tell_trim(trimmed: Result<usize, Refusal<TrimFault>>, answer: &mut [u64]) -> u32
     ensures { Told (trim_code trimmed) (trim_numbers trimmed) answer.old answer.new result }
 {
     match trimmed {
-        TrimAnswer::Trimmed(bytes) => {
+        Ok(bytes) => {
             put(answer, 0, bytes);
             WRITTEN
         }
-        TrimAnswer::RefusedProgram(refusal) => {
-            put_two(answer, refusal.line, 0);
-            refusal.number as u32
-        }
-        TrimAnswer::Refused(number) => number as u32,
+        Err(Refusal::Program(refusal)) => tell_refused(refusal, answer),
+        Err(Refusal::Service(fault)) => u32::from(u8::from(fault)),
     }
 }
 
 // The answer of the cheapest answer set.
-pub fn tell_cheapest(checked: CheapestAnswer, answer: &mut [u64]) -> u32
+pub fn tell_cheapest(checked: Result<usize, Refusal<CheapestFault>>, answer: &mut [u64]) -> u32
     ensures { Told (cheapest_code checked) (cheapest_numbers checked) answer.old answer.new result }
 {
     match checked {
-        CheapestAnswer::Cheapest(cost) => {
+        Ok(cost) => {
             put(answer, 0, cost);
             CHEAPEST
         }
-        CheapestAnswer::RefusedProgram(refusal) => {
-            put_two(answer, refusal.line, 0);
-            refusal.number as u32
-        }
-        CheapestAnswer::Refused(number) => number as u32,
+        Err(Refusal::Program(refusal)) => tell_refused(refusal, answer),
+        Err(Refusal::Service(fault)) => u32::from(u8::from(fault)),
     }
 }
 
 // The answer of the splitting of long sums.
-pub fn tell_split(split: SplitAnswer, answer: &mut [u64]) -> u32
+pub fn tell_split(split: Result<SplitCounts, Refusal<SplitFault>>, answer: &mut [u64]) -> u32
     ensures { Told (split_code split) (split_numbers split) answer.old answer.new result }
 {
     match split {
-        SplitAnswer::Split {
-            bytes,
-            atoms,
-            rules,
-            old_atoms,
-        } => {
-            put_four(answer, bytes, atoms, rules, old_atoms);
+        Ok(counts) => {
+            put_four(
+                answer,
+                counts.bytes,
+                counts.atoms,
+                counts.rules,
+                counts.old_atoms,
+            );
             WRITTEN
         }
-        SplitAnswer::RefusedProgram(refusal) => {
-            put_two(answer, refusal.line, 0);
-            refusal.number as u32
-        }
-        SplitAnswer::Refused(number) => number as u32,
+        Err(Refusal::Program(refusal)) => tell_refused(refusal, answer),
+        Err(Refusal::Service(fault)) => u32::from(u8::from(fault)),
     }
 }

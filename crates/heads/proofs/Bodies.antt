@@ -23,6 +23,7 @@ use Rattle.names.proofs.Asked.{plain_entry}
 use Rattle.names.proofs.ByRule.{ByRule}
 use Rattle.heads.proofs.Starts.{any-rule, rule-turn, plain-rule, kept_at, all-kept}
 use Rattle.heads.proofs.Walks.{Walk, walk_end}
+use Rattle.std.specs.Prelude.{Option, Some, None, IfSome}
 
 -- other keys are of other bodies
 pub other-body : (body ws : List ℤ) → ¬ (hash_from 0 ws ≡ hash_from 0 body) → same_list body ws ≡ false
@@ -38,7 +39,7 @@ other-body body ws n = by (same_list body ws) refl
 abbrev pub Other : List ℤ → List ℤ → ℕ → Type 0
 Other t body k = same_list body (body_words_at (words_from k t)) ≡ false
 
-pub none-with : (t : List ℤ) (n : ℕ) (body : List ℤ) (p : ℕ) → p ≤ 0 → Walk (BodyPlace t n) (BodyPlace t n) (hash_from 0 body) (Other t body) p → RuleWith t n body 0
+pub none-with : (t : List ℤ) (n : ℕ) (body : List ℤ) (p : ℕ) → p ≤ 0 → Walk (BodyPlace t n) (BodyPlace t n) (hash_from 0 body) (Other t body) p → RuleWith t n body None
 none-with t n body p e W k h = elim (equal? (hash_from 0 (body_words_at (words_from k t))) (hash_from 0 body)) [
   | inl q ↦ walk_end W e k (h, q)
   | inr d ↦ other-body body (body_words_at (words_from k t)) d
@@ -53,14 +54,14 @@ module _ (t : List ℤ) (n : ℕ) {names : List ℕ} {bodies : List ℤ} {called
   has_body : Decides (any (λ x. same_list body x.body) (expand (rules_at n t))) ((k : ℕ) × (k < n) × (same_list body (body_words_at (words_from k t)) ≡ true))
   has_body = any-rule (λ r. passed (same_list body r.body)) n t p
 
-  pub no_body : RuleWith t n body 0 → entries ≡ Name
+  pub no_body : RuleWith t n body None → entries ≡ Name
   no_body f = by (any (λ x. same_list body x.body) (expand (rules_at n t))) refl
     where
       by : (b : Bool) → any (λ x. same_list body x.body) (expand (rules_at n t)) ≡ b → entries ≡ cond b (called body) entries
       by true e = let q = if-true has_body e in absurd (true≢false (sym q.2 ∙ f q.0 q.1))
       by false e = refl
 
-  pub one-body : (k m : ℕ) → RuleWith t n body (suc k) → m ≡ get_or names k 0 → m ≡ Name
+  pub one-body : (k m : ℕ) → RuleWith t n body (Some k) → m ≡ get_or names k 0 → m ≡ Name
   one-body k m q e =
       let same : body ≡ body_words_at (words_from k t) = if-true (same_list-decides body (body_words_at (words_from k t))) q.1 in
       e ∙ kept_at t n s p K k q.0 ∙ ap called (sym same) ∙ ap (λ (b : Bool). cond b (called body) entries) (sym (is_true has_body (k, q.0, q.1)))
@@ -88,10 +89,10 @@ module _ (t : List ℤ) (n : ℕ) (body : List ℤ) (name : ℕ) (called : List 
       → Walk (BodyPlace t n) (BodyPlace t n) (hash_from 0 body) (New names) p → Naming names p
   naming-start {names} s p B W = record {
     walk = W;
-    old = λ k h l. (rule-turn t n names s k h).kept called B;
+    old = λ k h l. (rule-turn t n names k h).kept called B;
     others = λ k h d.
         let q = plain-rule n t p k h in
-        (rule-turn t n names s k h).kept called B ∙ plain_entry (words_from k t) q called
+        (rule-turn t n names k h).kept called B ∙ plain_entry (words_from k t) q called
         ∙ sym (plain_entry (words_from k t) q renamed ∙ ap (λ (b : Bool). cond b name (called (body_words_at (words_from k t)))) (other-body body _ d));
   }
 
@@ -139,10 +140,10 @@ before-less {index} {t} {rules} C k h = by (get_or index (before_at + k) 0) refl
     by zero e = omega arith
     by (suc r) e = omega (arith, (C.entered.bodies.next k (hash_from 0 (body_words_at (words_from k t))) r (h, refl) e).1)
 
--- the number of a rule that has the body, and one more
-pub found-few : (t : List ℤ) (rules : ℕ) (body : List ℤ) (r : ℕ) → rules ≤ most_held → RuleWith t rules body r → r ≤ most_held
-found-few t rules body zero h f = omega arith
-found-few t rules body (suc k) h f = omega (arith, f.0)
+-- the number of a rule that has the body
+pub found-few : (t : List ℤ) (rules : ℕ) (body : List ℤ) (r : Option ℕ) → rules ≤ most_held → RuleWith t rules body r → IfSome r (λ k. k < most_held)
+found-few t rules body None h f = tt
+found-few t rules body (Some k) h f = omega (arith, f.0)
 
 -- a store behind what is kept by rule
 pub kept-front : (names after : List ℕ) (rules at x m : ℕ) (l : List ℕ) → m ≡ rules → rules ≤ at → after ≡ set names at x → take rules names ≡ l → take m after ≡ l

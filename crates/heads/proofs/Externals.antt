@@ -13,7 +13,7 @@ use lib.IntN.{ℤ, pos}
 use lib.Signed.{lt_z}
 use lib.ListN.{length, take, get_or, set, length-set}
 use lib.Seq.{take-suc-set, length-take-le, get_or-take}
-use Rattle.words.specs.Limits.{largest, entries, most_held}
+use Rattle.words.specs.Limits.{largest, most_held}
 use Rattle.words.specs.Lists.{◌∈◌, any, filter}
 use Rattle.words.specs.Literals.{variable, has, distinct, ascending}
 use Rattle.words.proofs.Lists.{Decides, reworded, passed, if-true, is_true, failed, same_test, not-decides, and_left, and_right, any-decides, eqb-decides, keep→, keep←}
@@ -25,8 +25,8 @@ use Rattle.aspif.specs.Tables.{heads_at, body_words_at, rules_at, sound_rules}
 use Rattle.marks.specs.Marks.{listed, marked, Marks}
 use Rattle.names.specs.Queries.{Kept, is_inside, asks, asked_names}
 use Rattle.names.specs.declared.queries.Query.TheVariants.{External}
-use Rattle.heads.specs.Heads.{words_from, HasHead, IsExternal, row_words, Row, Collected, InRow, Gathers, Externals}
-use Rattle.heads.specs.declared.Found.TheVariants.{Names}
+use Rattle.heads.specs.Heads.{words_from, HasHead, IsExternal, row_words, Row, Collected, InRow, Gathered, Externals}
+use Rattle.std.specs.Prelude.{Some}
 use Rattle.heads.proofs.Starts.{in-rules→, in-rules←, kept_at, heads-high, rule-here}
 
 -- Different words, each of a number that is listed: no more than there are such numbers
@@ -96,36 +96,23 @@ module _ (row : List ℤ) (n name : ℕ) (w : ℤ) (R : Row row n) (room : n ≤
 
 module _ (t : List ℤ) (rules : ℕ) (names m : List ℕ) (before : List ℤ) (n k : ℕ) where
   pub rule-inside : Collected t rules names m before n → any (is_inside m) (body_words_at (words_from k t)) ≡ true
-      → Gathers t rules names m (λ j. j ≡ k) before n before n
+      → Gathered t rules names m (λ j. j ≡ k) before n before n
   rule-inside C e = record {
-    most = omega (arith, C.is.within);
-    unnamed = λ q. absurd (omega (arith, C.is.within));
-    collected = λ h. C;
-    keeps = λ h x i. i;
-    all = λ h j q X. absurd (true≢false (sym e ∙ subst (λ i. any (is_inside m) (body_words_at (words_from i t)) ≡ false) q X.2));
-  }
-
-  pub rule-unnamed : {row : List ℤ} {P : ℕ → Type 0} → IsExternal t rules m k → get_or names k 0 ≡ 0 → Gathers t rules names m P before n row entries
-  rule-unnamed X e = record {
-    most = omega arith;
-    unnamed = λ q. (k, X, e);
-    collected = λ h. absurd (omega arith);
-    keeps = λ h. absurd (omega arith);
-    all = λ h. absurd (omega arith);
+    collected = C;
+    keeps = λ x i. i;
+    all = λ j q X. absurd (true≢false (sym e ∙ subst (λ i. any (is_inside m) (body_words_at (words_from i t)) ≡ false) q X.2));
   }
 
   pub rule-noted : {row : List ℤ} {r name : ℕ} → IsExternal t rules m k → name ≡ get_or names k 0 → Collected t rules names m before n → Row row r × InRow row r name
       → ((x : ℤ) → x ∈ take n before → x ∈ take r row) × ((x : ℤ) → x ∈ take r row → (x ∈ take n before) ⊎ (x ≡ pos name))
-      → Gathers t rules names m (λ j. j ≡ k) before n row r
+      → Gathered t rules names m (λ j. j ≡ k) before n row r
   rule-noted {row} {r} {name} X e C R f = record {
-    most = omega (arith, R.0.within);
-    unnamed = λ q. absurd (omega (arith, R.0.within));
-    collected = λ h. record {
+    collected = record {
       is = R.0;
       sound = λ x i. elim (f.1 x i) [ inl o ↦ C.sound x o | inr q ↦ (k, X, sym e ∙ ap variable (sym q)) ];
     };
-    keeps = λ h. f.0;
-    all = λ h j q Y. subst (InRow row r) (e ∙ ap (λ i. get_or names i 0) (sym q)) R.1;
+    keeps = f.0;
+    all = λ j q Y. subst (InRow row r) (e ∙ ap (λ i. get_or names i 0) (sym q)) R.1;
   }
 
 -- the name of rule k is in the row, if it is external
@@ -134,17 +121,6 @@ Got t rules names m row count k = IsExternal t rules m k → InRow row count (ge
 
 pub in-row-keeps : (row row' : List ℤ) (n n' : ℕ) → ((x : ℤ) → x ∈ take n row → x ∈ take n' row') → (v : ℕ) → InRow row n v → InRow row' n' v
 in-row-keeps row row' n n' f v i = (i.0, λ h. f (pos v) (i.1 h))
-
--- a body without a name ends it
-pub gather-stops : {t : List ℤ} {rules : ℕ} {names m : List ℕ} {P Q : ℕ → Type 0} {a b row : List ℤ} {i n r : ℕ} → Gathers t rules names m P a i row r → largest < r
-    → Gathers t rules names m Q b n row r
-gather-stops G h = record {
-  most = G.most;
-  unnamed = G.unnamed;
-  collected = λ k. absurd (omega arith);
-  keeps = λ k. absurd (omega arith);
-  all = λ k. absurd (omega arith);
-}
 
 -- a head of the set
 pub head-inside : (m : List ℕ) (v : ℕ) (hs : List ℤ) → 1 ≤ v → marked m v ≡ true → has (pos v) hs ≡ true → any (is_inside m) hs ≡ true
@@ -208,22 +184,22 @@ module _ (t : List ℤ) (n : ℕ) {names : List ℕ} {bodies : List ℤ} {called
           kept-name q = sym (kept_at t n s p K q.0 q.1.0) ∙ q.2
 
   -- some body has no name
-  pub none_named : {P : ℕ → Type 0} {before row : List ℤ} {i r : ℕ} → Gathers t n names m P before i row r → largest < r → listed Asked 0 ≡ true
-  none_named G h = is_true (asked-decides 0) (G.unnamed (omega (arith, G.most)))
+  pub none_named : (k : ℕ) × IsExternal t n m k × (get_or names k 0 ≡ 0) → listed Asked 0 ≡ true
+  none_named = is_true (asked-decides 0)
 
   -- all names, put in order
-  pub all_told : {before row : List ℤ} (after : List ℤ) {r : ℕ} → Gathers t n names m (λ k. k < n) before 0 row r → r ≤ largest → take r after ≡ ascending (take r row)
-      → Externals Asked after (Names r)
-  all_told {row = row} after {r = r} G h e = rw e (
+  pub all_told : {before row : List ℤ} (after : List ℤ) {r : ℕ} → Gathered t n names m (λ k. k < n) before 0 row r → take r after ≡ ascending (take r row)
+      → Externals Asked after (Some r)
+  all_told {row = row} after {r = r} G e = rw e (
     C.is.within,
     rising-ascending (take r row) ∙ C.is.once,
     (λ x i. C.is.good x (ascending→ (take r row) i)),
     (λ v l. same_test (any-decides (λ x. eqb-decides v (variable x)) (ascending (take r row))) (asked-decides v)
         (λ q. let k = C.sound q.0 (ascending→ (take r row) q.1) in (k.0, k.1, k.2 ∙ sym q.2))
-        (λ q. let i = G.all h q.0 q.1.0 q.1 in
+        (λ q. let i = G.all q.0 q.1.0 q.1 in
         (pos v, ascending← (take r row) (subst (λ u. pos u ∈ take r row) q.2 (i.1 (omega (arith, q.2, l)))), refl))),
-    failed _ ((not-decides (asked-decides 0)).from (λ q. omega (arith, (G.all h q.0 q.1.0 q.1).0, q.2))),
+    failed _ ((not-decides (asked-decides 0)).from (λ q. omega (arith, (G.all q.0 q.1.0 q.1).0, q.2))),
   )
     where
       C : Collected t n names m row r
-      C = G.collected h
+      C = G.collected

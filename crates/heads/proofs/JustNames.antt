@@ -6,7 +6,6 @@ use mathlib.Core.Bool.{Bool, true, false}
 use mathlib.Core.List.{List}
 use Prim.Native.Nat.{ℕ, ◌≤◌, ◌<◌}
 use native.Mathlib.Omega.{arith}
-use lib.Dec.{eqb}
 use lib.IntN.{ℤ, pos}
 use lib.ListN.{length, take, get_or}
 use lib.Seq.{length-take-le, get_or-take}
@@ -50,7 +49,7 @@ module _ (t : List ℤ) (n : ℕ) {names : List ℕ} {bodies : List ℤ} {called
       cited← f x i = let q = f x i in (q.0, q.1.0, (q.1.1, sym (name q.0 q.1.0) ∙ q.2))
 
   -- a rule that hits no number
-  pub not-just : (hits : List ℕ) → Listed t n names v ns hits false → false ≡ is_just_names called (pos v) ns (expand (rules_at n t))
+  pub not-just : (hits : List Bool) → Listed t n names v ns hits false → false ≡ is_just_names called (pos v) ns (expand (rules_at n t))
   not-just hits q = by (is_just_names called (pos v) ns (expand (rules_at n t))) refl
     where
       by : (b : Bool) → is_just_names called (pos v) ns (expand (rules_at n t)) ≡ b → false ≡ b
@@ -58,31 +57,31 @@ module _ (t : List ℤ) (n : ℕ) {names : List ℕ} {bodies : List ℤ} {called
       by false e = refl
 
   -- every rule hits one: whether all are hit
-  pub just-hit : (hits : List ℕ) → length ns ≤ length hits → distinct ns ≡ true → Listed t n names v ns hits true
-      → all (λ b. eqb b 1) (take (length ns) hits) ≡ is_just_names called (pos v) ns (expand (rules_at n t))
-  just-hit hits m o L = same_test (all-decides (λ b. eqb-decides b 1) (take (length ns) hits)) just-decides to from
+  pub just-hit : (hits : List Bool) → length ns ≤ length hits → distinct ns ≡ true → Listed t n names v ns hits true
+      → all (λ b. b) (take (length ns) hits) ≡ is_just_names called (pos v) ns (expand (rules_at n t))
+  just-hit hits m o L = same_test (all-decides passed (take (length ns) hits)) just-decides to from
     where
       long : length (take (length ns) hits) ≡ length ns
       long = length-take-le (length ns) hits m
 
-      to : ((b : ℕ) → b ∈ take (length ns) hits → b ≡ 1) → Covered × Cited
+      to : ((b : Bool) → b ∈ take (length ns) hits → b ≡ true) → Covered × Cited
       to f = (
         λ k H. let h = L.0 k H in is_true (any-decides (λ x. eqb-decides (get_or names k 0) (variable x)) ns) (get_or ns h.0 (pos 0), in-at (pos 0) ns h.0 h.1, sym h.2.0),
         λ x i.
             let j = place-of (pos 0) i in
-            let e : get_or hits j.0 0 ≡ 1 = sym (get_or-take (length ns) hits j.0 0 j.1) ∙ f _ (in-at 0 (take (length ns) hits) j.0 (omega (arith, j.1, long))) in
+            let e : get_or hits j.0 false ≡ true = sym (get_or-take (length ns) hits j.0 false j.1) ∙ f _ (in-at false (take (length ns) hits) j.0 (omega (arith, j.1, long))) in
             let q = L.1 j.0 e in
             (q.0, q.1, q.2 ∙ ap variable j.2),
       )
 
-      from : Covered × Cited → (b : ℕ) → b ∈ take (length ns) hits → b ≡ 1
+      from : Covered × Cited → (b : Bool) → b ∈ take (length ns) hits → b ≡ true
       from g b i =
-          let j = place-of 0 i in
+          let j = place-of false i in
           let jb : j.0 < length ns = omega (arith, j.1, long) in
           let q = g.1 (get_or ns j.0 (pos 0)) (in-at (pos 0) ns j.0 jb) in
           let h = L.0 q.0 q.1 in
           let same : variable (get_or ns h.0 (pos 0)) ≡ variable (get_or ns j.0 (pos 0)) = h.2.0 ∙ q.2 in
           elim (equal? h.0 j.0) [
-            | inl e ↦ sym j.2 ∙ get_or-take (length ns) hits j.0 0 jb ∙ rw (← e) h.2.1
+            | inl e ↦ sym j.2 ∙ get_or-take (length ns) hits j.0 false jb ∙ rw (← e) h.2.1
             | inr d ↦ absurd (variables-differ ns o h.0 j.0 h.1 jb d same)
           ]

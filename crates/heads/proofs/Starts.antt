@@ -4,8 +4,8 @@ use mathlib.Core.Path.{◌≡◌, refl, sym, ap, ap₂, subst, ◌∙◌}
 use mathlib.Core.Logic.{◌⊎◌, inl, inr}
 use mathlib.Core.Bool.{Bool, true, false, not, true≢false}
 use mathlib.Core.List.Memᴰ
-use mathlib.Core.List.{List, [], ◌∷◌, map}
-use Prim.Native.Nat.{ℕ, zero, suc, ◌+◌, ◌≤◌, ◌<◌}
+use mathlib.Core.List.{List, [], ◌∷◌, map, head-eq_of_cons-eq, tail-eq_of_cons-eq}
+use Prim.Native.Nat.{ℕ, zero, suc, ◌+◌, ◌-◌, ◌≤◌, ◌<◌}
 use native.Mathlib.Numerals.{add-one}
 use native.Mathlib.Omega.{arith}
 use lib.IntN.{ℤ, pos, negsuc}
@@ -20,8 +20,8 @@ use Rattle.words.proofs.Places.{equal?, in-at, place-of}
 use Rattle.words.proofs.Ascending.{ascends-words}
 use Rattle.words.proofs.Lists.{Decides, reworded, passed, if-true, is_true, or-decides, any-decides, all-decides, and_left, and_right}
 use Rattle.aspif.specs.Rules.{Rule, InputRule, is_plain, all_plain, with_body, expand_rule, expand}
-use Rattle.aspif.specs.Tables.{is_weighted, head_count, head_start, size_at, heads_at, body_words_at, rule_at, rules_at, heads_sound, shape_sound, sound_at, sound_rules}
-use Rattle.aspif.proofs.Cursors.{plain_at, shaped}
+use Rattle.aspif.specs.Tables.{is_weighted, starts_at, head_count, head_start, size_at, heads_at, body_words_at, rule_at, rules_at, heads_sound, shape_sound, sound_at, sound_rules}
+use Rattle.aspif.proofs.Cursors.{plain_at, shaped, shape_of, starts-on, starts-length}
 use Rattle.names.specs.Queries.{Kept}
 use Rattle.heads.specs.Heads.{start_of, words_from, Headed, headed_by, headed_to, headed_at, Place, HasHead}
 use Rattle.names.proofs.Asked.{plain-bodies, plain_entry}
@@ -49,20 +49,54 @@ start-on (suc k) t =
     let w : size_at (words_from (suc k) t) ≡ size_at (words_from k (drop (size_at t) t)) = ap size_at (later k t) in
     omega (arith, e, w)
 
--- A loop that stands at rule k
+-- the words after those of rule k are those of the next
+words-on : (k : ℕ) (t : List ℤ) → drop (size_at (words_from k t)) (words_from k t) ≡ words_from (k + 1) t
+words-on k t = rw (add-one, start-on k t) (drop-drop (size_at (words_from k t)) (start_of k t) t)
 
-module _ (t : List ℤ) (n : ℕ) (names : List ℕ) (s : sound_rules n t ≡ true) where
-  pub course-at : (k : ℕ) → k ≤ n → Course t n names names k (start_of k t)
-  course-at zero h = rw (start_first t) (course-start t n names s)
-  course-at (suc k) h = rw (start-on k t, ← add-one) (turn (course-at k (omega arith)) (omega arith)).next
+-- the rules from rule k on
+pub starts-next : (n k : ℕ) (t : List ℤ) → k < n → starts_at (n - k) (words_from k t) ≡ words_from k t ∷ starts_at (n - (k + 1)) (words_from (k + 1) t)
+starts-next n k t h =
+    let e : n - k - 1 ≡ n - (k + 1) = omega arith in
+    starts-on (n - k) (words_from k t) (omega arith) ∙ ap₂ (λ m ws. words_from k t ∷ starts_at m ws) e (words-on k t)
 
-  pub rule-turn : (k : ℕ) (h : k < n) → Turn (course-at k (omega arith))
-  rule-turn k h = turn (course-at k (omega arith)) h
+-- a loop over the rules that stands at rule k
+pub At : List ℤ → ℕ → ℕ → List (List ℤ) → Type 0
+At t n k starts = (k ≤ n) × (starts ≡ starts_at (n - k) (words_from k t))
+
+pub at_first : (t : List ℤ) (n : ℕ) → At t n 0 (starts_at n t)
+unfolding At
+at_first t n = let e : n - 0 ≡ n = omega arith in (omega arith, rw (e, first-words t) refl)
+
+pub at-end : (t : List ℤ) (n k : ℕ) {starts : List (List ℤ)} → At t n k starts → starts ≡ [] → k ≡ n
+unfolding At
+at-end t n k a e = omega (arith, a.0, starts-length (n - k) (words_from k t), ap length (sym a.1 ∙ e))
+
+pub at-next : (t : List ℤ) (n k : ℕ) {starts after : List (List ℤ)} {ws : List ℤ} → At t n k starts → starts ≡ ws ∷ after
+    → (k < n) × (ws ≡ words_from k t) × At t n (k + 1) after
+unfolding At
+at-next t n k a e =
+    let h : k < n = omega (arith, a.0, starts-length (n - k) (words_from k t), ap length (sym a.1 ∙ e)) in
+    let q = sym e ∙ a.1 ∙ starts-next n k t h in
+    (h, head-eq_of_cons-eq q, (omega arith, tail-eq_of_cons-eq q))
+
+module _ (t : List ℤ) (n : ℕ) (names : List ℕ) where
+  course-at : (k : ℕ) → k ≤ n → Course t n names names k (starts_at (n - k) (words_from k t))
+  course-at zero h = let e : n - 0 ≡ n = omega arith in rw (e, first-words t) (course-start t n names)
+  course-at (suc k) h = rw (← add-one) (turn (course-at k (omega arith)) (starts-next n k t (omega arith))).next
+
+  pub rule-turn : (k : ℕ) → k < n → Turn t n names names k (words_from k t) (starts_at (n - (k + 1)) (words_from (k + 1) t))
+  rule-turn k h = turn (course-at k (omega arith)) (starts-next n k t h)
 
 -- what is known of rule k
 pub rule-here : (t : List ℤ) (n : ℕ) → sound_rules n t ≡ true → (k : ℕ) → k < n
-    → (start_of k t ≤ length t) × (sound_at (words_from k t) ≡ true) × (shape_sound (words_from k t) ≡ true)
-rule-here t n s k h = let r = rule-turn t n [] s k h in (r.here.0, r.sound, r.here.1)
+    → (start_of k t ≤ length t) × (sound_at (words_from k t) ≡ true)
+unfolding start_of size_at
+rule-here t zero s k h = absurd (omega arith)
+rule-here t (suc n) s zero h = (omega arith, rw (first-words t) (and_left (sound_at t) _ s))
+rule-here t (suc n) s (suc k) h =
+    let r = rule-here (drop (size_at t) t) n (and_right (sound_at t) _ s) k (omega arith) in
+    let f = (shaped t (shape_of t (and_left (sound_at t) _ s))).fits in
+    (omega (arith, r.0, f, length-drop (size_at t) t), rw (later k t) r.1)
 
 -- some rule as written passes: some rule by its number does
 pub any-written : (f : InputRule → Bool) (n : ℕ) (t : List ℤ) → Decides (any f (rules_at n t)) ((k : ℕ) × (k < n) × (f (rule_at (words_from k t)) ≡ true))
@@ -146,7 +180,7 @@ module _ {f : Rule → Bool} {F : Rule → Type 0} (i : (r : Rule) → Decides (
 pub kept_at : (t : List ℤ) (n : ℕ) {names : List ℕ} {bodies : List ℤ} {called : List ℤ → ℕ} → sound_rules n t ≡ true → all_plain (rules_at n t) ≡ true
     → Kept names bodies called (rules_at n t) → (k : ℕ) → k < n → get_or names k 0 ≡ called (body_words_at (words_from k t))
 kept_at t n {names} {called = called} s p K k h =
-    (rule-turn t n names s k h).kept called K.by_rule ∙ plain_entry (words_from k t) (plain-rule n t p k h) called
+    (rule-turn t n names k h).kept called K.by_rule ∙ plain_entry (words_from k t) (plain-rule n t p k h) called
 
 -- Heads are atoms
 
@@ -193,7 +227,7 @@ module _ (t : List ℤ) where
       go f (inl m) = let r = f m in (omega (arith, r.0), r.1)
       go f (inr m) =
           let r = Memᴰ.of_map (headed_by n) (heads_at (words_from n t)) m in
-          let g = (heads-high (words_from n t) (rule-turn t rules [] s n (omega arith)).sound r.0 r.1).0 in
+          let g = (heads-high (words_from n t) (rule-here t rules s n (omega arith)).1 r.0 r.1).0 in
           subst (λ a. HasHead t (suc n) a.head a.rule) r.2 (omega arith, is_true (has-decides (pos (variable r.0)) (heads_at (words_from n t))) (subst (λ z. z ∈ heads_at (words_from n t)) g r.1))
 
   pub head_of : (rules v x : ℕ) → sound_rules rules t ≡ true → Place (headed_to rules t) x v → HasHead t rules v (headed_at (headed_to rules t) x).rule

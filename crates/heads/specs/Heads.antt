@@ -1,7 +1,7 @@
 -- An index of a program without weight bodies, made once for a check and lent to the steps: where each rule starts in the table, chains of the heads
 -- by atom, and chains of the rules by their bodies. What private functions of the checker cite.
 -- Assumes nothing.
-use Rattle.std.specs.Prelude.{◌≡◌, Bool, true, false, cond, not, ◌&&◌, ◌||◌, List, [], ◌∷◌, ◌++◌, map, ℕ, zero, suc, ◌+◌, ◌*◌, ◌%◌, ◌≤◌, ◌<◌, eqb, ℤ, pos, length, take, drop, get_or}
+use Rattle.std.specs.Prelude.{Option, Some, None, ◌≡◌, Bool, true, false, cond, not, ◌&&◌, ◌||◌, List, [], ◌∷◌, ◌++◌, map, ℕ, zero, suc, ◌+◌, ◌*◌, ◌%◌, ◌≤◌, ◌<◌, eqb, ℤ, pos, length, take, drop, get_or}
 use Rattle.std.specs.Int.Signed.{lt_z}
 use Rattle.words.specs.Limits.{largest, entries, most_held}
 use Rattle.words.specs.Lists.{◌∈◌, any, all}
@@ -10,8 +10,6 @@ use Rattle.words.specs.Descending.{Descends}
 use Rattle.aspif.specs.Rules.{Rule, all_plain, is_normal}
 use Rattle.marks.specs.Marks.{listed}
 use Rattle.names.specs.Queries.{is_inside}
-use Rattle.heads.specs.declared.Found.{Found}
-use Rattle.heads.specs.declared.Found.TheVariants.{Names, Unnamed}
 use Rattle.aspif.specs.Tables.{size_at, heads_at, body_words_at, rule_at, rules_at}
 
 -- Rules by their numbers, from 0 on
@@ -66,6 +64,11 @@ name_words = most_held + hints
 -- where the hint for a name stands
 abbrev pub hint_of : ℕ → ℕ
 hint_of name = most_held + name % hints
+
+-- a rule as it stands in the index and in the hints: one more than its number, 0 for none
+abbrev pub linked : Option ℕ → ℕ
+linked None = 0
+linked (Some k) = suc k
 
 -- Heads
 
@@ -142,20 +145,20 @@ abbrev pub HasHead : List ℤ → ℕ → ℕ → ℕ → Type 0
 HasHead t rules v k = (k < rules) × (has (pos v) (heads_at (words_from k t)) ≡ true)
 
 -- the name of rule k's body is the listed number at a place that was hit
-abbrev pub Hit : List ℕ → List ℤ → List ℕ → ℕ → Type 0
-Hit names ns hits k = (j : ℕ) × (j < length ns) × ((variable (get_or ns j (pos 0)) ≡ get_or names k 0) × (get_or hits j 0 ≡ 1))
+abbrev pub Hit : List ℕ → List ℤ → List Bool → ℕ → Type 0
+Hit names ns hits k = (j : ℕ) × (j < length ns) × ((variable (get_or ns j (pos 0)) ≡ get_or names k 0) × (get_or hits j false ≡ true))
 
 -- the listed numbers that the rules with the head v hit, where each hits one; or such a rule that hits none
-abbrev pub Listed : List ℤ → ℕ → List ℕ → ℕ → List ℤ → List ℕ → Bool → Type 0
+abbrev pub Listed : List ℤ → ℕ → List ℕ → ℕ → List ℤ → List Bool → Bool → Type 0
 Listed t rules names v ns hits true =
     ((k : ℕ) → HasHead t rules v k → Hit names ns hits k)
-    × ((j : ℕ) → get_or hits j 0 ≡ 1 → (k : ℕ) × HasHead t rules v k × (get_or names k 0 ≡ variable (get_or ns j (pos 0))))
+    × ((j : ℕ) → get_or hits j false ≡ true → (k : ℕ) × HasHead t rules v k × (get_or names k 0 ≡ variable (get_or ns j (pos 0))))
 Listed t rules names v ns hits false = (k : ℕ) × HasHead t rules v k × (mentions (get_or names k 0) ns ≡ false)
 
--- a rule with the body, one more than its number, or 0 where there is none
-abbrev pub RuleWith : List ℤ → ℕ → List ℤ → ℕ → Type 0
-RuleWith t rules body zero = (k : ℕ) → k < rules → same_list body (body_words_at (words_from k t)) ≡ false
-RuleWith t rules body (suc k) = (k < rules) × (same_list body (body_words_at (words_from k t)) ≡ true)
+-- a rule with the body, or that there is none
+abbrev pub RuleWith : List ℤ → ℕ → List ℤ → Option ℕ → Type 0
+RuleWith t rules body None = (k : ℕ) → k < rules → same_list body (body_words_at (words_from k t)) ≡ false
+RuleWith t rules body (Some k) = (k < rules) × (same_list body (body_words_at (words_from k t)) ≡ true)
 
 -- the rule at the front is normal with just these heads, and what is kept of it is the name
 abbrev pub Completes : List ℤ → List ℤ → ℕ → ℕ → Type 0
@@ -188,20 +191,22 @@ pub record Collected (t : List ℤ) (rules : ℕ) (names m : List ℕ) (row : Li
 abbrev pub InRow : List ℤ → ℕ → ℕ → Type 0
 InRow row n v = (1 ≤ v) × (v ≤ largest → pos v ∈ take n row)
 
--- what is gathered, after n words of a row, from the rules that P is of: those that are external have their names among the r words there are then;
--- or some external body has no name
-pub record Gathers (t : List ℤ) (rules : ℕ) (names m : List ℕ) (P : ℕ → Type 0) (before : List ℤ) (n : ℕ) (row : List ℤ) (r : ℕ) : Type 0 where
-  pub most : r ≤ entries
-  pub unnamed : r ≡ entries → (k : ℕ) × IsExternal t rules m k × (get_or names k 0 ≡ 0)
-  pub collected : r ≤ largest → Collected t rules names m row r
-  pub keeps : r ≤ largest → (x : ℤ) → x ∈ take n before → x ∈ take r row
-  pub all : r ≤ largest → (k : ℕ) → P k → IsExternal t rules m k → InRow row r (get_or names k 0)
+-- after n words of a row, the rules that P is of and that are external have their names among the r words there are then
+pub record Gathered (t : List ℤ) (rules : ℕ) (names m : List ℕ) (P : ℕ → Type 0) (before : List ℤ) (n : ℕ) (row : List ℤ) (r : ℕ) : Type 0 where
+  pub collected : Collected t rules names m row r
+  pub keeps : (x : ℤ) → x ∈ take n before → x ∈ take r row
+  pub all : (k : ℕ) → P k → IsExternal t rules m k → InRow row r (get_or names k 0)
+
+-- what is gathered: these names; or some external body has none
+abbrev pub Gathers : List ℤ → ℕ → List ℕ → List ℕ → (ℕ → Type 0) → List ℤ → ℕ → List ℤ → Option ℕ → Type 0
+Gathers t rules names m P before n row (Some r) = Gathered t rules names m P before n row r
+Gathers t rules names m P before n row None = (k : ℕ) × IsExternal t rules m k × (get_or names k 0 ≡ 0)
 
 -- what is told of the names of the external bodies: the first n words of the row are those that are variables, ascending, each once; or some body
 -- has none
-abbrev pub Externals : List ℕ → List ℤ → Found → Type 0
-Externals l row (Names n) =
+abbrev pub Externals : List ℕ → List ℤ → Option ℕ → Type 0
+Externals l row (Some n) =
     (n ≤ row_words) × (rising (take n row) ≡ true)
     × ((x : ℤ) → x ∈ take n row → (x ≡ pos (variable x)) × (1 ≤ variable x) × (variable x ≤ largest))
     × ((v : ℕ) → v ≤ largest → mentions v (take n row) ≡ listed l v) × (listed l 0 ≡ false)
-Externals l row Unnamed = listed l 0 ≡ true
+Externals l row None = listed l 0 ≡ true

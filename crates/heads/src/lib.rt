@@ -3,20 +3,21 @@
 // What the functions promise is specs/Heads.antt. No service: the checker's steps are built on it.
 #![tactic(auto)]
 
-ghost use Rattle.std.specs.Prelude.{◌≡◌, true, false, cond, ◌&&◌, ◌⊎◌, List, [], ◌∷◌, ◌++◌, map, ℕ, suc, ◌+◌, ◌<◌, ◌≤◌, eqb, ℤ, pos, length, replicate, take, get_or, set};
+ghost use Rattle.std.specs.Prelude.{IfSome, MatchOption, ◌≡◌, true, false, cond, ◌&&◌, ◌⊎◌, List, [], ◌∷◌, ◌++◌, map, ℕ, suc, ◌+◌, ◌<◌, ◌≤◌, eqb, ℤ, pos, length, replicate, take, get_or, set};
 ghost use Rattle.words.specs.Limits.{largest, entries, most_held, longest, most_numbers};
 ghost use Rattle.words.specs.Lists.{◌∈◌, any, all};
 ghost use Rattle.words.specs.Literals.{variable, same_list, distinct, mentions, top};
 ghost use Rattle.aspif.specs.Rules.{InputRule, all_plain, expand};
-ghost use Rattle.aspif.specs.Tables.{rules_at, sound_rules, sound_at, shape_sound, heads_at};
+ghost use Rattle.aspif.specs.Tables.{rules_at, sound_rules, heads_at};
 ghost use Rattle.names.specs.Queries.{HoldsRules, entry, Kept, is_inside, asked_names, completing};
-ghost use Rattle.heads.specs.Heads.{start_of, words_from, most_heads, hashes, first_at, next_at, bucket_at, index_words, hint_of, Headed, headed_by, headed_to, headed_at};
+ghost use Rattle.heads.specs.Heads.{start_of, words_from, most_heads, hashes, first_at, next_at, bucket_at, index_words, hint_of, linked, Headed, headed_by, headed_to, headed_at};
 ghost use Rattle.heads.specs.Heads.{HeadChains, mixed, hash_from, Entered, covered, Indexed, Covers, is_just_names, Listed, RuleWith, Completes};
 ghost use Rattle.heads.specs.Heads.{HasHead, row_words, Row, InRow, Collected, Gathers, Externals};
 ghost use Rattle.names.specs.declared.queries.Query.TheVariants.{External};
 ghost use Rattle.marks.specs.Marks.{marked, Marks};
 
 use aspif::tables;
+use aspif::tables::Rule;
 use names::queries;
 use words::{ENTRIES, LARGEST, LONGEST, MOST_HELD, MOST_NUMBERS};
 
@@ -47,21 +48,14 @@ const HINTS: usize = 1024;
 
 pub const NAME_WORDS: usize = MOST_HELD + HINTS;
 
-// The names of the external bodies of a set: so many words of the row; or some body has none.
-#[derive(Drop)]
-pub enum Found {
-    Names(usize),
-    Unnamed,
-}
-
 // The word at a place; 0 past the end.
 fn word_of(index: &[u16], at: usize) -> usize
     ensures { result ≡ get_or index.now at 0 }
 {
-    if at < index.len() {
-        return words::wide(index[at]);
+    match index.get(at) {
+        Some(word) => words::wide(*word),
+        None => 0,
     }
-    0
 }
 
 // The index covers the program.
@@ -89,10 +83,8 @@ fn hash_of(literals: &[i32]) -> usize
     ensures hash { (result ≡ hash_from 0 literals.now) × (result < hashes) }
 {
     let mut h = 0;
-    let mut i = 0;
-    while i < literals.len() {
-        h = mix(h, literals[i]);
-        i += 1;
+    for literal in literals {
+        h = mix(h, *literal);
     }
     h
 }
@@ -126,24 +118,21 @@ fn enter_heads(index: &mut [u16], heads: &[i32], k: usize, n: usize)
         → HeadChains index.new (es ++ map (headed_by k) heads.now) }
     ensures others { (i : ℕ) → (i < first_at) ⊎ (bucket_at ≤ i) → get_or index.new i 0 ≡ get_or index.old i 0 }
 {
-    let mut j = 0;
-    while j < heads.len() {
-        enter_head(index, words::variable_of(heads[j]), k, n + j);
-        j += 1;
+    for (j, head) in heads.iter().enumerate() {
+        enter_head(index, words::variable_of(*head), k, n + j);
     }
 }
 
-// Rule k, at the front of the words, which stand in the table from `at` on, after n heads.
-fn enter_rule(index: &mut [u16], words: &[i32], at: usize, k: usize, n: usize)
-    requires index { (length index.old ≡ index_words) × (k < most_held) × (at ≤ longest) × (n + length (heads_at words.now) ≤ most_heads) }
-    requires rule { sound_at words.now ≡ true }
-    ensures entered { (table : List ℤ) → words.now ≡ words_from k table → at ≡ start_of k table → length (headed_to k table) ≡ n
+// Rule k, which stands in the table from `at` on, after n heads.
+fn enter_rule(index: &mut [u16], rule: &Rule, at: usize, k: usize, n: usize)
+    requires { (length index.old ≡ index_words) × (k < most_held) × (at ≤ longest) × (n + length (heads_at rule.now.words.now) ≤ most_heads) }
+    ensures entered { (table : List ℤ) → rule.now.words.now ≡ words_from k table → at ≡ start_of k table → length (headed_to k table) ≡ n
         → Entered index.old table k → Entered index.new table (suc k) }
     ensures first { get_or index.new 0 0 ≡ get_or index.old 0 0 }
 {
     index[STARTS + k] = at as u16;
-    link(index, BUCKET, BEFORE, hash_of(tables::body_of(words)), k);
-    enter_heads(index, tables::heads_of(words), k, n);
+    link(index, BUCKET, BEFORE, hash_of(rule.body()), k);
+    enter_heads(index, rule.heads(), k, n);
 }
 
 // The index of a program without weight bodies, if it has room.
@@ -153,21 +142,18 @@ pub fn fill(table: &[i32], rules: usize, index: &mut [u16])
     ensures { Indexed index.new table.now rules }
 {
     let mut n = 0;
-    let mut k = 0;
-    let mut i = 0;
-    while k < rules {
-        let rest = &table[i..];
-        let heads = tables::heads_of(rest).len();
-        if LONGEST < i {
+    let mut at = 0;
+    for (k, rule) in tables::rules_in(table, rules).enumerate() {
+        let heads = rule.heads().len();
+        if LONGEST < at {
             return;
         }
         if MOST_HEADS < n + heads {
             return;
         }
-        enter_rule(index, rest, i, k, n);
-        i = tables::next_rule(table, i);
+        enter_rule(index, &rule, at, k, n);
+        at += rule.size();
         n += heads;
-        k += 1;
     }
     index[0] = 1;
 }
@@ -188,45 +174,42 @@ pub fn next_head(index: &[u16], x: usize) -> usize
     word_of(index, NEXT + x)
 }
 
-// The words from the rule of the head at place x on.
-pub fn words_of<'a>(table: &'a [i32], rules: usize, index: &[u16], x: usize) -> &'a [i32]
+// Rule k.
+fn numbered<'a>(table: &'a [i32], rules: usize, index: &[u16], k: usize) -> Rule<'a>
+    requires { Covers index.now table.now rules × (sound_rules rules table.now ≡ true) × (k < rules) }
+    ensures { result.words.now ≡ words_from k table.now }
+{
+    let at = word_of(index, STARTS + k);
+    Rule {
+        words: &table[at..],
+    }
+}
+
+// The rule of the head at place x.
+pub fn rule_of<'a>(table: &'a [i32], rules: usize, index: &[u16], x: usize) -> Rule<'a>
     requires index { Covers index.now table.now rules × (sound_rules rules table.now ≡ true) }
     requires place { x < length (headed_to rules table.now) }
-    ensures { result.now ≡ words_from (headed_at (headed_to rules table.now) x).rule table.now }
+    ensures { result.words.now ≡ words_from (headed_at (headed_to rules table.now) x).rule table.now }
 {
     let k = word_of(index, OWNER + x);
-    let at = word_of(index, STARTS + k);
-    &table[at..]
+    numbered(table, rules, index, k)
 }
 
-// The place of a name among the listed numbers; as many as they are, where it is not listed.
-fn place_of(listed: &[i32], name: usize) -> usize
-    ensures place { result ≤ length listed.now }
-    ensures here { result < length listed.now → variable (get_or listed.now result (pos 0)) ≡ name }
-    ensures none { result ≡ length listed.now → mentions name listed.now ≡ false }
+// The place of a name among the listed numbers, if it is listed.
+fn place_of(listed: &[i32], name: usize) -> Option<usize>
+    ensures { MatchOption result (mentions name listed.now ≡ false)
+        (λ j. (j < length listed.now) × (variable (get_or listed.now j (pos 0)) ≡ name)) }
 {
-    let mut j = 0;
-    while j < listed.len() {
-        if words::variable_of(listed[j]) == name {
-            return j;
-        }
-        j += 1;
-    }
-    j
+    listed
+        .iter()
+        .position(|number| words::variable_of(*number) == name)
 }
 
-// Every byte is 1.
-fn all_hit(hits: &[u8]) -> bool
-    ensures { result ≡ all (λ b. eqb b 1) hits.now }
+// Every number was hit.
+fn all_hit(hits: &[bool]) -> bool
+    ensures { result ≡ all (λ hit. hit) hits.now }
 {
-    let mut j = 0;
-    while j < hits.len() {
-        if hits[j] != 1 {
-            return false;
-        }
-        j += 1;
-    }
-    true
+    hits.iter().all(|hit| *hit)
 }
 
 // The rules with the head v hit the listed numbers that name their bodies; false where one hits none.
@@ -237,21 +220,20 @@ fn all_listed(
     index: &[u16],
     v: usize,
     listed: &[i32],
-    hits: &mut [u8],
+    hits: &mut [bool],
 ) -> bool
     requires index { Covers index.now table.now rules × (sound_rules rules table.now ≡ true) × (rules ≤ length names.now) }
-    requires line { (v ≤ largest) × (length listed.now ≤ length hits.old) × (hits.old ≡ replicate (length hits.old) 0) }
+    requires line { (v ≤ largest) × (length listed.now ≤ length hits.old) × (hits.old ≡ replicate (length hits.old) false) }
     ensures { Listed table.now rules names.now v listed.now hits.new result }
 {
     let mut p = word_of(index, FIRST + v);
     while 0 < p {
         let x = p - 1;
         let k = word_of(index, OWNER + x);
-        let j = place_of(listed, words::wide(names[k]));
-        if j == listed.len() {
+        let Some(j) = place_of(listed, words::wide(names[k])) else {
             return false;
-        }
-        hits[j] = 1;
+        };
+        hits[j] = true;
         p = word_of(index, NEXT + x);
     }
     true
@@ -273,32 +255,32 @@ pub fn are_just_names(
         → (bodies : List ℤ) (called : List ℤ → ℕ) → Kept names.now bodies called ws
         → result ≡ is_just_names called (pos v) listed.now (expand ws) }
 {
-    let mut hits = [0u8; MOST_NUMBERS];
+    let mut hits = [false; MOST_NUMBERS];
     if all_listed(table, rules, names, index, v, listed, &mut hits) {
         return all_hit(&hits[..listed.len()]);
     }
     false
 }
 
-// A rule with the body, one more than its number; 0 where there is none.
-fn rule_with(table: &[i32], rules: usize, index: &[u16], body: &[i32]) -> usize
+// A rule with the body, by its number.
+fn rule_with(table: &[i32], rules: usize, index: &[u16], body: &[i32]) -> Option<usize>
     requires { Covers index.now table.now rules × (sound_rules rules table.now ≡ true) }
     ensures { RuleWith table.now rules body.now result }
 {
     let mut p = word_of(index, BUCKET + hash_of(body));
     while 0 < p {
         let k = p - 1;
-        let at = word_of(index, STARTS + k);
-        let rest = &table[at..];
-        if words::is_same_list(body, tables::body_of(rest)) {
-            return p;
+        let rule = numbered(table, rules, index, k);
+        if words::is_same_list(body, rule.body()) {
+            return Some(k);
         }
         p = word_of(index, BEFORE + k);
     }
-    0
+    None
 }
 
 // What the literals, ascending, are called as a body of the rules: 0 where that has no name, 8,192 where no rule has the body.
+// No Option: the contract of body_name is public and names both numbers.
 pub fn body_name(
     table: &[i32],
     rules: usize,
@@ -316,11 +298,10 @@ pub fn body_name(
     if !is_covered(index) {
         return queries::body_name(table, rules, names, bodies, body);
     }
-    let found = rule_with(table, rules, index, body);
-    if 0 < found {
-        return words::wide(names[found - 1]);
+    match rule_with(table, rules, index, body) {
+        Some(k) => words::wide(names[k]),
+        None => ENTRIES,
     }
-    ENTRIES
 }
 
 // Question 28: the literals, ascending, are the body of a rule, and it has no name.
@@ -359,9 +340,8 @@ fn enter_rules(
     let mut p = word_of(index, BUCKET + hash_of(body));
     while 0 < p {
         let k = p - 1;
-        let at = word_of(index, STARTS + k);
-        let rest = &table[at..];
-        names[k] = queries::name_for(rest, body, name, names[k]);
+        let rule = numbered(table, rules, index, k);
+        names[k] = queries::name_for(&rule, body, name, names[k]);
         p = word_of(index, BEFORE + k);
     }
 }
@@ -373,14 +353,19 @@ fn hint_of(name: usize) -> usize
     MOST_HELD + name % HINTS
 }
 
-// The last rule with the body of a name, one more than its number: a hint behind what is kept by rule, where there is room for it.
-fn put_hint(names: &mut [u16], name: usize, newest: usize)
-    requires { newest ≤ most_held }
-    ensures { names.new ≡ set names.old (hint_of name) newest }
+// The last rule with the body of a name: a hint behind what is kept by rule, where there is room for it. It is one more than the rule's
+// number, as in the chains; 0 where no rule has the body.
+fn put_hint(names: &mut [u16], name: usize, newest: Option<usize>)
+    requires { IfSome newest (λ k. k < most_held) }
+    ensures { names.new ≡ set names.old (hint_of name) (linked newest) }
 {
+    let hint = match newest {
+        Some(k) => k + 1,
+        None => 0,
+    };
     let at = hint_of(name);
     if at < names.len() {
-        names[at] = newest as u16;
+        names[at] = hint as u16;
     }
 }
 
@@ -411,13 +396,12 @@ pub fn enter(
     queries::enter(table, rules, body, name, names, bodies);
 }
 
-// The rule at the front is normal with just these heads, and `kept`, what is kept of it, is the name.
-fn completes(words: &[i32], heads: &[i32], name: usize, kept: usize) -> bool
-    requires { shape_sound words.now ≡ true }
-    ensures { result ≡ true → Completes words.now heads.now name kept }
+// The rule is normal with just these heads, and `kept`, what is kept of it, is the name.
+fn completes(rule: &Rule, heads: &[i32], name: usize, kept: usize) -> bool
+    ensures { result ≡ true → Completes rule.now.words.now heads.now name kept }
 {
     if kept == name {
-        return queries::is_normal_with(words, heads);
+        return queries::is_normal_with(rule, heads);
     }
     false
 }
@@ -441,9 +425,8 @@ fn is_found(
     }
     while 0 < p {
         let k = p - 1;
-        let at = word_of(index, STARTS + k);
-        let rest = &table[at..];
-        if completes(rest, heads, name, words::wide(names[k])) {
+        let rule = numbered(table, rules, index, k);
+        if completes(&rule, heads, name, words::wide(names[k])) {
             return true;
         }
         p = word_of(index, BEFORE + k);
@@ -486,7 +469,7 @@ fn note(row: &mut [i32], n: usize, name: u16) -> usize
     if LARGEST < words::wide(name) {
         return n;
     }
-    let word = name as i32;
+    let word = i32::from(name);
     if words::contains(&row[..n], word) {
         return n;
     }
@@ -494,24 +477,24 @@ fn note(row: &mut [i32], n: usize, name: u16) -> usize
     n + 1
 }
 
-// The name of the body of the rule at the front, unless a positive atom of it is in the set; 8,192 where it has none.
-fn gather_rule(words: &[i32], inside: &[u8], name: u16, row: &mut [i32], n: usize) -> usize
-    requires { (shape_sound words.now ≡ true) × Row row.old n × (n ≤ most_held) }
-    ensures { (t : List ℤ) (rules : ℕ) (names : List ℕ) (k : ℕ) → words.now ≡ words_from k t → name ≡ get_or names k 0 → k < rules
+// The name of the body of the rule, unless a positive atom of it is in the set; none where it has no name.
+fn gather_rule(rule: &Rule, inside: &[u8], name: u16, row: &mut [i32], n: usize) -> Option<usize>
+    requires { Row row.old n × (n ≤ most_held) }
+    ensures { (t : List ℤ) (rules : ℕ) (names : List ℕ) (k : ℕ) → rule.now.words.now ≡ words_from k t → name ≡ get_or names k 0 → k < rules
         → any (is_inside inside.now) (heads_at (words_from k t)) ≡ true
         → Collected t rules names inside.now row.old n
         → Gathers t rules names inside.now (λ j. j ≡ k) row.old n row.new result }
 {
-    if queries::any_inside(tables::body_of(words), inside) {
-        return n;
+    if queries::any_inside(rule.body(), inside) {
+        return Some(n);
     }
     if name == 0 {
-        return ENTRIES;
+        return None;
     }
-    note(row, n, name)
+    Some(note(row, n, name))
 }
 
-// The names of the external bodies of rules with the head v, which is in the set; 8,192 where one has none.
+// The names of the external bodies of rules with the head v, which is in the set; none where one has no name.
 fn gather_head(
     table: &[i32],
     rules: usize,
@@ -521,7 +504,7 @@ fn gather_head(
     inside: &[u8],
     row: &mut [i32],
     n: usize,
-) -> usize
+) -> Option<usize>
     requires index { Covers index.now table.now rules × (sound_rules rules table.now ≡ true) × (rules ≤ length names.now) }
     requires head { (1 ≤ v) × (v ≤ largest) × (marked inside.now v ≡ true) }
     requires row { Collected table.now rules names.now inside.now row.old n }
@@ -533,18 +516,14 @@ fn gather_head(
     while 0 < p {
         let x = p - 1;
         let k = word_of(index, OWNER + x);
-        let at = word_of(index, STARTS + k);
-        let rest = &table[at..];
-        count = gather_rule(rest, inside, names[k], row, count);
-        if LARGEST < count {
-            return count;
-        }
+        let rule = numbered(table, rules, index, k);
+        count = gather_rule(&rule, inside, names[k], row, count)?;
         p = word_of(index, NEXT + x);
     }
-    count
+    Some(count)
 }
 
-// The names of all external bodies of the set; 8,192 where one has none.
+// The names of all external bodies of the set; none where one has no name.
 fn gather_all(
     table: &[i32],
     rules: usize,
@@ -553,7 +532,7 @@ fn gather_all(
     atoms: &[i32],
     inside: &[u8],
     row: &mut [i32],
-) -> usize
+) -> Option<usize>
     requires index { Covers index.now table.now rules × (sound_rules rules table.now ≡ true) × (rules ≤ length names.now) }
     requires set { Marks inside.now (map variable atoms.now) × ((x : ℤ) → x ∈ atoms.now → (1 ≤ variable x) × (variable x ≤ largest)) }
     requires row { length row.old ≡ row_words }
@@ -561,27 +540,22 @@ fn gather_all(
         row.old 0 row.new result }
 {
     let mut count = 0;
-    let mut i = 0;
-    while i < atoms.len() {
+    for atom in atoms {
         count = gather_head(
             table,
             rules,
             names,
             index,
-            words::variable_of(atoms[i]),
+            words::variable_of(*atom),
             inside,
             row,
             count,
-        );
-        if LARGEST < count {
-            return count;
-        }
-        i += 1;
+        )?;
     }
-    count
+    Some(count)
 }
 
-// The names of the external bodies of the set, ascending in the row.
+// The names of the external bodies of the set, ascending: so many words of the row; none where some body has no name.
 pub fn external_names(
     table: &[i32],
     rules: usize,
@@ -590,7 +564,7 @@ pub fn external_names(
     atoms: &[i32],
     inside: &[u8],
     row: &mut [i32],
-) -> Found
+) -> Option<usize>
     requires program { (sound_rules rules table.now ≡ true) × (rules ≤ length names.now) }
     requires index { Indexed index.now table.now rules × (covered index.now ≡ true) }
     requires set { Marks inside.now (map variable atoms.now) × ((x : ℤ) → x ∈ atoms.now → (1 ≤ variable x) × (variable x ≤ largest)) }
@@ -599,10 +573,7 @@ pub fn external_names(
         → (bodies : List ℤ) (called : List ℤ → ℕ) → Kept names.now bodies called ws
         → Externals (asked_names External inside.now called (expand ws)) row.new result }
 {
-    let count = gather_all(table, rules, names, index, atoms, inside, row);
-    if LARGEST < count {
-        return Found::Unnamed;
-    }
+    let count = gather_all(table, rules, names, index, atoms, inside, row)?;
     words::sort(&mut row[..count]);
-    Found::Names(count)
+    Some(count)
 }

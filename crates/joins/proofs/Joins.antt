@@ -1,16 +1,14 @@
 -- The rules of a joined node: the line of one, one share after another, one level after another. Assumes nothing.
 use mathlib.Core.Path.{◌≡◌, refl, sym, ap, subst, ◌∙◌}
-use mathlib.Core.Bool.{cond}
 use mathlib.Core.List.{List, [], ◌∷◌, ◌++◌, map, append_assoc, append-nil, map-append}
 use Prim.Native.Nat.{ℕ, zero, suc, ◌+◌, ◌-◌, ◌≤◌, ◌<◌}
 use native.Mathlib.Numerals.{add-one}
 use native.Mathlib.Omega.{arith}
-use lib.Dec.{leb}
 use lib.IntN.{ℤ, pos}
 use lib.ListN.{length, take, get_or}
 use lib.Seq.{take-suc, take-length}
 use Rattle.words.specs.Lists.{concat, filter}
-use Rattle.words.proofs.Lists.{failed, is_true, leb-decides, not-decides, concat-append}
+use Rattle.words.proofs.Lists.{concat-append}
 use Rattle.text.specs.Decimals.{decimals, decimal, number_bytes, spaced}
 use Rattle.text.specs.Writing.{Put}
 use Rattle.text.proofs.Puts.{spaced-append}
@@ -20,6 +18,7 @@ use Rattle.totalizer.specs.declared.texts.Place.{Place}
 use Rattle.totalizer.specs.Emitting.{line_of, Emits}
 use Rattle.totalizer.proofs.Emitted.{emits-on}
 use Rattle.totalizer.proofs.Groups.{level-more}
+use Rattle.std.specs.Prelude.{Some, None}
 use Rattle.joins.specs.Joining.{said_at, share_at, shares_of, Partner, plain_rule, plain_numbers, share_rules, node_joins}
 use Rattle.joins.proofs.Partners.{first, shares-length, share-at}
 
@@ -60,19 +59,19 @@ join-put atom n ls ms e {before} {after} {at} {next} p = subst (λ (l : List ℕ
 
 -- One share
 
-pub share-none : (t : ℕ) (us vs : List ℕ) (i : ℕ) {j : ℕ} → Partner t us vs i j → length vs < j → (atom n m : ℕ)
+pub share-none : (t : ℕ) (us vs : List ℕ) (i : ℕ) → Partner t us vs i None → (atom n m : ℕ)
     → share_rules atom t (shares_of n us) (shares_of m vs) (share_at n us i) ≡ []
 unfolding Partner
-share-none t us vs i {j} p h atom n m =
+share-none t us vs i p atom n m =
     ap (λ (ys : List Share). map (plain_rule atom) (map (λ y. said_at n i ++ y.said) ys))
-    (p n m ∙ ap (λ b. cond b (share_at m vs j ∷ []) []) (failed (leb j (length vs)) ((not-decides (leb-decides j (length vs))).from (λ l. omega arith))))
+    (p n m)
 
-pub share-one : (t : ℕ) (us vs : List ℕ) (i : ℕ) {j : ℕ} → Partner t us vs i j → j ≤ length vs → (atom n m : ℕ)
+pub share-one : (t : ℕ) (us vs : List ℕ) (i j : ℕ) → Partner t us vs i (Some j) → (atom n m : ℕ)
     → share_rules atom t (shares_of n us) (shares_of m vs) (share_at n us i) ≡ plain_rule atom (said_at n i ++ said_at m j) ∷ []
 unfolding Partner
-share-one t us vs i {j} p h atom n m =
+share-one t us vs i j p atom n m =
     ap (λ (ys : List Share). map (plain_rule atom) (map (λ y. said_at n i ++ y.said) ys))
-    (p n m ∙ ap (λ b. cond b (share_at m vs j ∷ []) []) (is_true (leb-decides j (length vs)) h))
+    (p n m)
 
 -- One share after another
 

@@ -6,8 +6,9 @@ use mathlib.Core.Logic.{◌⊎◌, inl, inr}
 use Prim.Native.Nat.{ℕ, zero, suc, ◌+◌, ◌-◌, ◌≤◌, ◌<◌}
 use native.Mathlib.Omega.{arith}
 use borrow.Author.Tests.{ltb-true, ltb-false}
-use lib.Dec.{leb, ltb}
+use lib.Dec.{ltb}
 use lib.ListN.{length, get_or, get_or-eq_default}
+use Rattle.std.specs.Prelude.{Some, None}
 use Rattle.words.specs.Lists.{◌∈◌, filter}
 use Rattle.words.proofs.Lists.{Decides, failed, is_true, leb-decides, and-decides, or-decides, not-decides, all-decides}
 use Rattle.words.proofs.Places.{in-at, place-of}
@@ -172,20 +173,14 @@ module _ (t : ℕ) (us vs : List ℕ) (a : SumsUpTo most_weight (0 ∷ us)) (c :
       let k : p.0 ≤ length vs = omega (arith, p.1) in
       subst (λ z. f z ≡ false) (sym (share-at m vs p.0 k) ∙ p.2) (none-else p.0 k (λ e. omega arith)))
 
-  -- nothing past the end
-  pub partner-none : {r : ℕ} → length vs < r
-      → filter (is_just_enough t (shares_of n us) (shares_of m vs) (share_at n us i)) (shares_of m vs) ≡ []
-      → filter (is_just_enough t (shares_of n us) (shares_of m vs) (share_at n us i)) (shares_of m vs) ≡ only_share m vs r
-  partner-none {r} h e = e ∙ rw (failed (leb r (length vs)) ((not-decides (leb-decides r (length vs))).from (λ l. omega arith)))
-
   pub partner-first : j ≤ length vs → i ≡ 0
-      → filter (is_just_enough t (shares_of n us) (shares_of m vs) (share_at n us i)) (shares_of m vs) ≡ only_share m vs j
-  partner-first h e = passing h ∙ rw (first_passes h e, is_true (leb-decides j (length vs)) h)
+      → filter (is_just_enough t (shares_of n us) (shares_of m vs) (share_at n us i)) (shares_of m vs) ≡ only_share m vs (Some j)
+  partner-first h e = passing h ∙ rw (first_passes h e)
 
   pub partner-later : j ≤ length vs → (p : ℕ) → i ≡ suc p → get_or (0 ∷ us) p 0 + level j < t
-      → filter (is_just_enough t (shares_of n us) (shares_of m vs) (share_at n us i)) (shares_of m vs) ≡ only_share m vs j
+      → filter (is_just_enough t (shares_of n us) (shares_of m vs) (share_at n us i)) (shares_of m vs) ≡ only_share m vs (Some j)
   partner-later h p e l =
-      passing h ∙ rw (is_true (decided j) (to h p e l), is_true (leb-decides j (length vs)) h)
+      passing h ∙ rw (is_true (decided j) (to h p e l))
 
   pub partner-missed : j ≤ length vs → (p : ℕ) → i ≡ suc p → t ≤ get_or (0 ∷ us) p 0 + level j
       → filter (is_just_enough t (shares_of n us) (shares_of m vs) (share_at n us i)) (shares_of m vs) ≡ []
@@ -198,11 +193,11 @@ module _ (t i : ℕ) {us vs : List ℕ} {x need j : ℕ} (a : SumsUpTo most_weig
   is : j ≡ below (t - get_or (0 ∷ us) i 0) (0 ∷ vs)
   is = ej ∙ ap (λ k. below k (0 ∷ vs)) (en ∙ ap (λ k. t - k) ex)
 
-  pub found-past : length vs < j → Partner t us vs i j
+  pub found-past : length vs < j → Partner t us vs i None
   unfolding Partner
-  found-past h n m = partner-none t us vs a c i here n m h (partner-past t us vs a c i here n m (omega (arith, is)))
+  found-past h n m = partner-past t us vs a c i here n m (omega (arith, is))
 
-  pub found-first-share : j ≤ length vs → i ≡ 0 → Partner t us vs i j
+  pub found-first-share : j ≤ length vs → i ≡ 0 → Partner t us vs i (Some j)
   unfolding Partner
   found-first-share h e n m = rw is (partner-first t us vs a c i here n m (omega (arith, is)) e)
 
@@ -217,15 +212,14 @@ module _ (t i : ℕ) {us vs : List ℕ} {x need j : ℕ} (a : SumsUpTo most_weig
     beside-it : z ≡ get_or (0 ∷ vs) (below (t - get_or (0 ∷ us) i 0) (0 ∷ vs)) 0
     beside-it = ez ∙ ap (λ k. get_or (0 ∷ vs) k 0) is
 
-    pub found-later : y + z < t → Partner t us vs i j
+    pub found-later : y + z < t → Partner t us vs i (Some j)
     unfolding Partner
     found-later l n m = rw is (partner-later t us vs a c i here n m (omega (arith, is)) (i - 1) before (omega (arith, ey, beside-it)))
 
-    pub found-missed : t ≤ y + z → Partner t us vs i (length vs + 1)
+    pub found-missed : t ≤ y + z → Partner t us vs i None
     unfolding Partner
     found-missed l n m =
-        partner-none t us vs a c i here n m (omega arith)
-        (partner-missed t us vs a c i here n m (omega (arith, is)) (i - 1) before (omega (arith, ey, beside-it)))
+        partner-missed t us vs a c i here n m (omega (arith, is)) (i - 1) before (omega (arith, ey, beside-it))
 
 pub level-after : (ts : List ℕ) (i : ℕ) → ¬ (i ≡ 0) → get_or ts (i - 1) 0 ≡ get_or (0 ∷ ts) i 0
 level-after ts zero h = absurd (h refl)

@@ -1,7 +1,7 @@
 -- What the private functions say of the shares of two sides and the rules they give. No reader of the public contract
 -- needs it.
 -- Assumes nothing.
-use Rattle.std.specs.Prelude.{◌≡◌, cond, List, [], ◌∷◌, ◌++◌, map, ℕ, zero, suc, ◌+◌, leb, ℤ, pos, length, get_or}
+use Rattle.std.specs.Prelude.{◌≡◌, List, [], ◌∷◌, ◌++◌, map, ℕ, zero, suc, ◌+◌, ℤ, pos, length, get_or, Option, Some, None}
 use Rattle.words.specs.Lists.{concat, filter}
 use Rattle.aspif.specs.Rules.{plain, InputRule}
 use Rattle.sums.specs.Plans.{numbered, Share, shares, is_just_enough, define, join_rules}
@@ -19,12 +19,13 @@ share_at n ts i = record { level = get_or (0 ∷ ts) i 0; said = said_at n i }
 abbrev pub shares_of : (n : ℕ) → (ts : List ℕ) → List Share
 shares_of n ts = shares (numbered n [] ts)
 
--- share i alone, and none where there is no such share
-abbrev pub only_share : (n : ℕ) → (ts : List ℕ) → (i : ℕ) → List Share
-only_share n ts i = cond (leb i (length ts)) (share_at n ts i ∷ []) []
+-- a share alone, where there is one
+abbrev pub only_share : (n : ℕ) → (ts : List ℕ) → Option ℕ → List Share
+only_share n ts (Some i) = share_at n ts i ∷ []
+only_share n ts None = []
 
 -- share r of the right side is the one that is just enough with share i of the left, or there is none
-unfoldable pub Partner : (t : ℕ) → (us vs : List ℕ) → (i r : ℕ) → Type 0
+unfoldable pub Partner : (t : ℕ) → (us vs : List ℕ) → (i : ℕ) → Option ℕ → Type 0
 Partner t us vs i r =
     (n m : ℕ) → filter (is_just_enough t (shares_of n us) (shares_of m vs) (share_at n us i)) (shares_of m vs) ≡ only_share m vs r
 

@@ -271,6 +271,7 @@ fn emit_rest(
         → Emits (first_rules group bound pairs.now first.first) before output.old p first.place
         → Written group bound pairs.now first.first before output.new p result }
 {
+    // The last group goes another way, and a loop over parts that leaves it out is no plainer.
     let mut node = first;
     let mut from = group;
     while 2 * (from + group) < pairs.len() {

@@ -108,11 +108,10 @@ fn emit_share(
     ensures { Emits (share_rules atom level (shares_of first left.now) (shares_of second right.now)
         (share_at first left.now i)) output.old output.new place result }
 {
-    let j = pairing::partner_of(left, i, right, level);
-    if right.len() < j {
-        return place;
+    match pairing::partner_of(left, i, right, level) {
+        Some(j) => emit_join(output, place, atom, first, i, second, j),
+        None => place,
     }
-    emit_join(output, place, atom, first, i, second, j)
 }
 
 // The rules of one level. Nothing is looked for where there are too many rules already.
@@ -136,10 +135,8 @@ fn emit_level(
         return place;
     }
     let mut here = place;
-    let mut i = 0;
-    while i <= left.len() {
+    for i in 0..left.len() + 1 {
         here = emit_share(output, here, atom, level, left, first, i, right, second);
-        i += 1;
     }
     here
 }
@@ -162,19 +159,8 @@ pub fn emit_node(
         output.old output.new place result }
 {
     let mut here = place;
-    let mut k = 0;
-    while k < levels.len() {
-        here = emit_level(
-            output,
-            here,
-            atom + k,
-            levels[k],
-            left,
-            first,
-            right,
-            second,
-        );
-        k += 1;
+    for (k, level) in levels.iter().enumerate() {
+        here = emit_level(output, here, atom + k, *level, left, first, right, second);
     }
     here
 }

@@ -24,12 +24,15 @@ use Rattle.aspif.specs.Claims.{FormedWithin}
 use Rattle.aspif.proofs.Formed.{inside, within-fits}
 use Rattle.aspif.proofs.RuleTests.{greatest-within}
 use Rattle.aspif.specs.declared.ProgramRefusal.{ProgramRefusal}
-use Rattle.aspif.specs.declared.ProgramReading.TheVariants.{Read, Refused}
 use Rattle.joins.specs.declared.chains.Numbered.{Numbered}
 use Rattle.long_sums.proofs.Held.{rules-there, all_held}
 use Rattle.long_sums.specs.Program.{ProgramWritten, ReadLong}
-use Rattle.long_sums.specs.Service.{SplitLeft, is_group_size, is_writable, zeroed, split_to, split_reading, split_text}
-use Rattle.long_sums.specs.declared.SplitAnswer.TheVariants as Answer
+use Rattle.long_sums.specs.Service.{split_into, SplitLeft, is_group_size, is_writable, zeroed, split_to, split_reading, split_text}
+use Rattle.aspif.specs.declared.ProgramFault.TheVariants.{TooLong}
+use Rattle.aspif.specs.declared.Refusal.TheVariants.{Program, Service}
+use Rattle.long_sums.specs.declared.SplitFault.TheVariants.{TooLarge}
+use Rattle.std.specs.Prelude.{Result, Ok, Err}
+use Rattle.aspif.specs.declared.ProgramCounts.{ProgramCounts}
 
 -- Question 66
 
@@ -72,7 +75,7 @@ numbers-passed r a p o e =
 
 module _ {rs : List InputRule} {before output : List ℕ} {q : Numbered} (w : ProgramWritten rs before output q) (long : length before ≡ length output)
     (ws : List InputRule) (table : List ℤ) (t : ℕ) where
-  pub refused-66 : (r : SplitLeft) → is_writable (length output) rs ≡ false → r ≡ zeroed t (length output) (Answer.Refused 66) → r ≡ split_to t (length output) ws rs
+  pub refused-66 : (r : SplitLeft) → is_writable (length output) rs ≡ false → r ≡ zeroed t (length output) (Err (Service TooLarge)) → r ≡ split_to t (length output) ws rs
   refused-66 r e f = f ∙ (rw e)
 
   module _ (e : is_writable (length output) rs ≡ true) where
@@ -102,7 +105,7 @@ module _ {rs : List InputRule} {before output : List ℕ} {q : Numbered} (w : Pr
     pub written-66 : (new : List ℕ) (old : ℕ) → new ≡ replicate (length (take (length output - q.place.at) (drop q.place.at output))) 0
         → table ≡ table_words t ws → old ≡ atoms ws
         → (let left : SplitLeft = record {
-          answer = Answer.Split q.place.at (q.atom - 1) q.place.rules old;
+          answer = split_into q.place.at (q.atom - 1) q.place.rules old;
           table = table;
           output = put_mid q.place.at (length output - q.place.at) output new;
         } in left ≡ split_to t (length output) ws rs)
@@ -132,17 +135,19 @@ size-asked g h = and_both (le-leb 2 g h.0) (le-leb g most_weighted h.1)
 
 -- What was read
 
-refusal_is : {a f : ProgramRefusal} → Refused a ≡ Refused f → a ≡ f
+refusal_is : {a f : ProgramRefusal} → ◌≡◌ {A = Result ProgramCounts ProgramRefusal} (Err a) (Err f) → a ≡ f
 refusal_is e = cc
 
-atoms_are : {a b m n : ℕ} → Read a m ≡ Read b n → (a ≡ b) × (m ≡ n)
-atoms_are e = (cc, cc)
+atoms_are : {a b m n : ℕ} → ◌≡◌ {A = Result ProgramCounts ProgramRefusal} (Ok (record { atoms = a; rules = m })) (Ok (record { atoms = b; rules = n })) → (a ≡ b) × (m ≡ n)
+atoms_are {a} {b} {m} {n} e =
+    let c : record { atoms = a; rules = m } ≡ record { atoms = b; rules = n } = cc in
+    (ap (λ (x : ProgramCounts). x.atoms) c, ap (λ (x : ProgramCounts). x.rules) c)
 
-never : {a n : ℕ} {f : ProgramRefusal} → Read a n ≡ Refused f → ⊥
+never : {a n : ℕ} {f : ProgramRefusal} → ◌≡◌ {A = Result ProgramCounts ProgramRefusal} (Ok (record { atoms = a; rules = n })) (Err f) → ⊥
 never e = let z : ◌≡◌ {A = ℕ} 0 1 = cc in omega arith
 
-pub refused-read : (t o g : ℕ) (x : Reading) (f : ProgramRefusal) → program_answer x ≡ Refused f → split_reading t o g x ≡ zeroed t o (Answer.RefusedProgram f)
-refused-read t o g (Reading.refused k n) f e = ap (λ (r : ProgramRefusal). zeroed t o (Answer.RefusedProgram r)) (refusal_is e)
+pub refused-read : (t o g : ℕ) (x : Reading) (f : ProgramRefusal) → program_answer x ≡ Err f → split_reading t o g x ≡ zeroed t o (Err (Program f))
+refused-read t o g (Reading.refused k n) f e = ap (λ (r : ProgramRefusal). zeroed t o (Err (Program r))) (refusal_is e)
 refused-read t o g (program rs) f e = absurd (never e)
 
 -- a program that was read
@@ -156,7 +161,7 @@ pub past_first : (most size : ℕ) (text : List ℕ) (rs : List InputRule) → r
 unfolding read_text_within
 past_first most size text rs e = go (leb (length text) longest) e
   where
-    go : (b : Bool) → cond b (read_lines_within most size text) (Reading.refused 1 0) ≡ program rs → read_lines_within most size text ≡ program rs
+    go : (b : Bool) → cond b (read_lines_within most size text) (Reading.refused TooLong 0) ≡ program rs → read_lines_within most size text ≡ program rs
     go true e = e
     go false e = absurd (let z : ◌≡◌ {A = ℕ} 0 1 = cc in omega arith)
 
@@ -164,7 +169,7 @@ pub record LongRead (x : Reading) (rules top : ℕ) (table : List ℤ) : Type 0 
   pub long : ReadLong rules top table
   pub is : x ≡ program (rules_at rules table)
 
-pub long-read : (size : ℕ) (text : List ℕ) (x : Reading) → read_text_within most_literals size text ≡ x → {top rules : ℕ} → program_answer x ≡ Read top rules
+pub long-read : (size : ℕ) (text : List ℕ) (x : Reading) → read_text_within most_literals size text ≡ x → {top rules : ℕ} → program_answer x ≡ Ok (record { atoms = top; rules = rules })
     → (table : List ℤ) → table ≡ table_of size x → length table ≡ size → LongRead x rules top table
 long-read size text (Reading.refused k n) r e table w l = absurd (never (sym e))
 long-read size text (program rs) r {top} {rules} e table w l =
@@ -186,11 +191,11 @@ long-read size text (program rs) r {top} {rules} e table w l =
 -- What the service leaves
 
 module _ (t o : ℕ) (text : List ℕ) (g : ℕ) {n : ℕ} (size : n ≡ t) (left : SplitLeft) where
-  pub refused-left : (f : ProgramRefusal) → program_answer (read_text_within most_literals t text) ≡ Refused f → left ≡ zeroed n o (Answer.RefusedProgram f)
+  pub refused-left : (f : ProgramRefusal) → program_answer (read_text_within most_literals t text) ≡ Err f → left ≡ zeroed n o (Err (Program f))
       → left ≡ split_text t o text g
   unfolding split_text
   refused-left f e l =
-      l ∙ ap (λ (m : ℕ). zeroed m o (Answer.RefusedProgram f)) size ∙ sym (refused-read t o g (read_text_within most_literals t text) f e)
+      l ∙ ap (λ (m : ℕ). zeroed m o (Err (Program f))) size ∙ sym (refused-read t o g (read_text_within most_literals t text) f e)
 
   pub read_left : {rules top : ℕ} {table : List ℤ} → LongRead (read_text_within most_literals t text) rules top table
       → left ≡ split_reading n o g (program (rules_at rules table)) → left ≡ split_text t o text g

@@ -3,10 +3,10 @@ use mathlib.Core.Path.{◌≡◌, refl, sym, ap, subst, ◌∙◌}
 use mathlib.Core.Bool.{true}
 use mathlib.Core.List.Memᴰ
 use mathlib.Core.List.{List, [], ◌∷◌, ◌++◌, append_assoc}
-use Prim.Native.Nat.{ℕ, ◌+◌, ◌-◌, ◌≤◌, ◌<◌}
+use Prim.Native.Nat.{ℕ, ◌-◌, ◌<◌}
 use lib.IntN.{ℤ}
 use lib.ListN.{length, drop}
-use lib.Seq.{drop-drop}
+use lib.Seq.{drop_at}
 use Rattle.words.specs.Lists.{◌∈◌}
 use Rattle.words.specs.Limits.{most_literals}
 use Rattle.words.proofs.Lists.{one_less}
@@ -23,53 +23,50 @@ rules-there (r ∷ rs) t =
     let e = append_assoc (rule_words r) (program_words rs) t in
     rw (e, rule-at r (program_words rs ++ t), rest_at r (program_words rs ++ t)) (ap (λ (l : List InputRule). r ∷ l) (rules-there rs t))
 
+-- a rule that is formed, and so many, whatever stands behind them
+
+pub rule-held : (ws rest : List ℤ) → ws ≡ rule_words (rule_at ws) ++ rest → FormedWithin most_literals (rule_at ws) → RuleHeld ws
+rule-held ws rest e f =
+    let d : drop (size_at ws) ws ≡ rest = ap (λ (l : List ℤ). drop (size_at l) l) e ∙ rest_at (rule_at ws) rest in
+    record { words = e ∙ ap (λ (l : List ℤ). rule_words (rule_at ws) ++ l) (sym d); formed = f }
+
+pub rules-held : (n : ℕ) (ws rest : List ℤ) → ws ≡ program_words (rules_at n ws) ++ rest → ((r : InputRule) → r ∈ rules_at n ws → FormedWithin most_literals r)
+    → RulesHeld n ws
+rules-held n ws rest e f =
+    let k = length (program_words (rules_at n ws)) in
+    let d : drop k ws ≡ rest = ap (drop k) e ∙ drop_at (program_words (rules_at n ws)) rest k refl in
+    record { words = e ∙ ap (λ (l : List ℤ). program_words (rules_at n ws) ++ l) (sym d); formed = f }
+
 pub all_held : (rs : List InputRule) (t ws : List ℤ) → ((r : InputRule) → r ∈ rs → FormedWithin most_literals r) → ws ≡ program_words rs ++ t
     → RulesHeld (length rs) ws
 all_held rs t ws f e =
     let r : rules_at (length rs) ws ≡ rs = ap (rules_at (length rs)) e ∙ rules-there rs t in
-    record { rest = t; words = e ∙ ap (λ (l : List InputRule). program_words l ++ t) (sym r); formed = λ x i. f x (subst (λ (l : List InputRule). x ∈ l) r i) }
+    rules-held (length rs) ws t (e ∙ ap (λ (l : List InputRule). program_words l ++ t) (sym r)) (λ x i. f x (subst (λ (l : List InputRule). x ∈ l) r i))
 
 -- one rule after another
 
 pub held-shape : (ws : List ℤ) → RuleHeld ws → shape_sound ws ≡ true
-held-shape ws h = ap shape_sound h.words ∙ shape-words (rule_at ws) h.formed h.rest
+held-shape ws h = ap shape_sound h.words ∙ shape-words (rule_at ws) h.formed (drop (size_at ws) ws)
 
-pub record HeldAt (t : List ℤ) (left i : ℕ) : Type 0 where
-  pub held : RuleHeld (drop i t)
-  pub here : (i ≤ length t) × (shape_sound (drop i t) ≡ true)
-  pub next : RulesHeld (left - 1) (drop (i + size_at (drop i t)) t)
-  pub rules : rules_at left (drop i t) ≡ rule_at (drop i t) ∷ rules_at (left - 1) (drop (i + size_at (drop i t)) t)
-
-module _ (t : List ℤ) (left i : ℕ) (more : 0 < left) (w : i ≤ length t) (h : RulesHeld left (drop i t)) where
-  abbrev ws : List ℤ
-  ws = drop i t
-
+module _ (ws : List ℤ) (n : ℕ) (more : 0 < n) (h : RulesHeld n ws) where
   abbrev later : List InputRule
-  later = rules_at (left - 1) (drop (size_at ws) ws)
+  later = rules_at (n - 1) (drop (size_at ws) ws)
 
-  first : rules_at left ws ≡ rule_at ws ∷ later
-  first = ap (λ (n : ℕ). rules_at n ws) (one_less left more)
+  abbrev rest : List ℤ
+  rest = drop (length (program_words (rules_at n ws))) ws
 
-  words : ws ≡ rule_words (rule_at ws) ++ (program_words later ++ h.rest)
-  words = h.words ∙ ap (λ (rs : List InputRule). program_words rs ++ h.rest) first ∙ append_assoc (rule_words (rule_at ws)) (program_words later) h.rest
+  first : rules_at n ws ≡ rule_at ws ∷ later
+  first = ap (λ (k : ℕ). rules_at k ws) (one_less n more)
 
-  one : RuleHeld ws
-  one = record { rest = program_words later ++ h.rest; words = words; formed = h.formed (rule_at ws) (subst (λ (l : List InputRule). rule_at ws ∈ l) (sym first) (Memᴰ.head refl)) }
+  words : ws ≡ rule_words (rule_at ws) ++ (program_words later ++ rest)
+  words = h.words ∙ ap (λ (rs : List InputRule). program_words rs ++ rest) first ∙ append_assoc (rule_words (rule_at ws)) (program_words later) rest
 
-  behind : drop (size_at ws) ws ≡ program_words later ++ h.rest
-  behind = ap (λ (l : List ℤ). drop (size_at l) l) words ∙ rest_at (rule_at ws) (program_words later ++ h.rest)
+  -- the rule that stands first
+  pub first-held : RuleHeld ws
+  first-held = rule-held ws (program_words later ++ rest) words (h.formed (rule_at ws) (subst (λ (l : List InputRule). rule_at ws ∈ l) (sym first) (Memᴰ.head refl)))
 
-  on : drop (size_at ws) ws ≡ drop (i + size_at ws) t
-  on = drop-drop (size_at ws) i t
-
-  pub held_at : HeldAt t left i
-  held_at = record {
-    held = one;
-    here = (w, held-shape ws one);
-    next = subst (RulesHeld (left - 1)) on (record {
-      rest = h.rest;
-      words = behind;
-      formed = λ r m. h.formed r (subst (λ (l : List InputRule). r ∈ l) (sym first) (Memᴰ.tail m));
-    });
-    rules = first ∙ ap (λ (l : List ℤ). rule_at ws ∷ rules_at (left - 1) l) on;
-  }
+  -- and those behind it
+  pub later-held : RulesHeld (n - 1) (drop (size_at ws) ws)
+  later-held =
+      rules-held (n - 1) (drop (size_at ws) ws) rest (ap (λ (l : List ℤ). drop (size_at l) l) words ∙ rest_at (rule_at ws) (program_words later ++ rest))
+      (λ r m. h.formed r (subst (λ (l : List InputRule). r ∈ l) (sym first) (Memᴰ.tail m)))

@@ -1,25 +1,23 @@
 -- Items one after another, until there are too many rules. Assumes nothing.
 use mathlib.Core.Path.{◌≡◌, refl, sym, ap, subst, ◌∙◌}
 use mathlib.Core.Bool.{Bool, true, false}
-use mathlib.Core.List.{List, [], ◌∷◌}
+use mathlib.Core.List.{List, [], ◌∷◌, map}
 use Prim.Native.Nat.{ℕ, ◌+◌, ◌-◌, ◌*◌, ◌≤◌, ◌<◌}
 use native.Mathlib.Omega.{arith}
 use borrow.Author.Tests.{leb-true, leb-false}
 use lib.Dec.{leb}
 use lib.IntN.{ℤ}
-use lib.ListN.{length, drop}
+use lib.ListN.{length}
 use Rattle.words.specs.Limits.{most_rules}
-use Rattle.aspif.specs.Rules.{InputRule}
-use Rattle.aspif.specs.Tables.{size_at, rule_at, rules_at}
-use Rattle.aspif.proofs.Cursors.{no-rules}
+use Rattle.aspif.specs.Tables.{rule_at, rules_at, starts_at}
+use Rattle.aspif.proofs.Cursors.{starts-length, rules_from_starts}
 use Rattle.sums.specs.Plans.{Item, split_item, in_turn}
 use Rattle.sums.specs.Levels.{planned, sorted_groups}
 use Rattle.totalizer.specs.declared.texts.Place.{Place}
 use Rattle.totalizer.specs.Emitting.{Bounded, Emits}
 use Rattle.totalizer.proofs.Emitted.{emits_none, emits-full, emits-on}
 use Rattle.joins.specs.declared.chains.Numbered.{Numbered}
-use Rattle.long_sums.specs.Program.{RulesHeld, item_of, most_new, ItemEmitted, ItemsEmitted}
-use Rattle.long_sums.proofs.Held.{HeldAt, held_at}
+use Rattle.long_sums.specs.Program.{item_of, most_new, ItemEmitted, ItemsEmitted}
 
 -- none, and any where there are too many already
 none_emitted : (before : List ℕ) (q : Numbered) → Bounded q.place → ItemsEmitted [] before before q.place q.atom q
@@ -46,62 +44,52 @@ module _ {i : Item} {is : List Item} {before between : List ℕ} {p : Place} {n 
   last-emitted h = record { rules = emits-on e.rules (emits-full between q.place e.rules.bounded _ h); atom = λ k. absurd (omega (arith, h, k)) }
 
 -- where the loop stands: what is left for those behind gives what was asked for all
-pub record Standing (g : ℕ) (table : List ℤ) (rules : ℕ) (all : List Item) (before : List ℕ) (p : Place) (n : ℕ) (output : List ℕ) (here : Numbered) (left i : ℕ)
-    : Type 0 where
-  pub within : i ≤ length table
-  pub held : RulesHeld left (drop i table)
-  pub fewer : left ≤ rules
+pub record Standing (g rules : ℕ) (all : List Item) (before : List ℕ) (p : Place) (n : ℕ) (output : List ℕ) (here : Numbered) (starts : List (List ℤ)) : Type 0 where
+  pub fewer : length starts ≤ rules
   pub bounded : Bounded here.place
-  pub low : here.atom ≤ 10000 + most_new * (rules - left)
+  pub low : here.atom ≤ 10000 + most_new * (rules - length starts)
   pub long : length output ≡ length before
   pub rest : here.place.rules ≤ most_rules → {after : List ℕ} {q : Numbered}
-      → ItemsEmitted (planned (sorted_groups (g - 1)) (rules_at left (drop i table))) output after here.place here.atom q → ItemsEmitted all before after p n q
+      → ItemsEmitted (planned (sorted_groups (g - 1)) (map rule_at starts)) output after here.place here.atom q → ItemsEmitted all before after p n q
   pub full : most_rules < here.place.rules → ItemsEmitted all before output p n here
 
-pub stands-first : (g : ℕ) (table : List ℤ) (rules : ℕ) (before : List ℕ) (here : Numbered) → RulesHeld rules table → Bounded here.place → here.atom ≤ 10000
-    → Standing g table rules (planned (sorted_groups (g - 1)) (rules_at rules table)) before here.place here.atom before here rules 0
-stands-first g table rules before here h b l = record {
-  within = omega arith;
-  held = h;
-  fewer = omega arith;
+pub stands-first : (g : ℕ) (table : List ℤ) (rules : ℕ) (before : List ℕ) (here : Numbered) → Bounded here.place → here.atom ≤ 10000
+    → Standing g rules (planned (sorted_groups (g - 1)) (rules_at rules table)) before here.place here.atom before here (starts_at rules table)
+stands-first g table rules before here b l = record {
+  fewer = omega (arith, starts-length rules table);
   bounded = b;
-  low = omega arith;
+  low = omega (arith, l);
   long = refl;
-  rest = λ m e. e;
+  rest = λ m {after} {q} e. rw (rules_from_starts rules table) e;
   full = too_many _ before here here.atom b;
 }
 
-module _ {g : ℕ} {table : List ℤ} {rules : ℕ} {all : List Item} {before : List ℕ} {p : Place} {n : ℕ} {output : List ℕ} {here : Numbered} {left i : ℕ}
-    (S : Standing g table rules all before p n output here left i) where
-  pub stands-done : left ≤ 0 → ItemsEmitted all before output p n here
+module _ {g rules : ℕ} {all : List Item} {before : List ℕ} {p : Place} {n : ℕ} {output : List ℕ} {here : Numbered} {starts : List (List ℤ)}
+    (S : Standing g rules all before p n output here starts) where
+  pub stands-done : starts ≡ [] → ItemsEmitted all before output p n here
   stands-done h = by (leb here.place.rules most_rules) refl
     where
       by : (t : Bool) → leb here.place.rules most_rules ≡ t → ItemsEmitted all before output p n here
       by true e =
           S.rest (leb-true here.place.rules most_rules e)
-          (subst (λ (rs : List InputRule). ItemsEmitted (planned (sorted_groups (g - 1)) rs) output output here.place here.atom here)
-          (sym (no-rules left (drop i table) h)) (none_emitted output here S.bounded))
+          (subst (λ (l : List (List ℤ)). ItemsEmitted (planned (sorted_groups (g - 1)) (map rule_at l)) output output here.place here.atom here)
+          (sym h) (none_emitted output here S.bounded))
       by false e = S.full (leb-false here.place.rules most_rules e)
 
-  module _ (more : 0 < left) (few : here.place.rules ≤ most_rules) where
-    pub at : HeldAt table left i
-    at = held_at table left i more S.within S.held
-
+  -- a rule and those behind it
+  module _ {ws : List ℤ} {behind : List (List ℤ)} (steps : starts ≡ ws ∷ behind) where
     pub low-atom : rules ≤ most_rules → here.atom ≤ 2000000000
-    low-atom h = omega (arith, S.low, S.fewer, more, h)
+    low-atom h = omega (arith, S.low, S.fewer, ap length steps, h)
 
-    pub stands_on : {after : List ℕ} {q : Numbered} {next : ℕ} → ItemEmitted (item_of g (rule_at (drop i table))) output after here.place here.atom q
-        → next ≡ i + size_at (drop i table) → next ≤ length table → length after ≡ length output
-        → Standing g table rules all before p n after q (left - 1) next
-    stands_on {after} {q} {next} e m w l = record {
-      within = w;
-      held = rw m at.next;
-      fewer = omega (arith, S.fewer);
+    pub stands_on : here.place.rules ≤ most_rules → {after : List ℕ} {q : Numbered} → ItemEmitted (item_of g (rule_at ws)) output after here.place here.atom q
+        → length after ≡ length output → Standing g rules all before p n after q behind
+    stands_on few {after} {q} e l = record {
+      fewer = omega (arith, S.fewer, ap length steps);
       bounded = e.rules.bounded;
-      low = omega (arith, S.low, e.low, S.fewer);
+      low = omega (arith, S.low, e.low, S.fewer, ap length steps);
       long = l ∙ S.long;
-      rest = λ h {after = u} {q = v} f. S.rest few (subst (λ (rs : List InputRule). ItemsEmitted (planned (sorted_groups (g - 1)) rs) output u here.place here.atom v)
-          (sym (at.rules ∙ ap (λ (k : ℕ). rule_at (drop i table) ∷ rules_at (left - 1) (drop k table)) (sym m))) (more-emitted e h f));
-      full = λ h. S.rest few (subst (λ (rs : List InputRule). ItemsEmitted (planned (sorted_groups (g - 1)) rs) output after here.place here.atom q)
-          (sym at.rules) (last-emitted e h));
+      rest = λ h {after = u} {q = v} f. S.rest few (subst (λ (l : List (List ℤ)). ItemsEmitted (planned (sorted_groups (g - 1)) (map rule_at l)) output u here.place here.atom v)
+          (sym steps) (more-emitted e h f));
+      full = λ h. S.rest few (subst (λ (l : List (List ℤ)). ItemsEmitted (planned (sorted_groups (g - 1)) (map rule_at l)) output after here.place here.atom q)
+          (sym steps) (last-emitted e h));
     }

@@ -18,7 +18,7 @@ use Rattle.text.proofs.Puts.{spaced-append}
 use Rattle.weights.specs.Weights.{paired, pair_words, most_weight, most_weighted}
 use Rattle.aspif.specs.Rules.{Body, plain, weights, InputRule, literals_of, kind_word, body_kind_word, body_words}
 use Rattle.aspif.specs.Reading.{all_weights}
-use Rattle.aspif.specs.Tables.{is_weighted, heads_at, bound_at, body_words_at, body_at, rule_at}
+use Rattle.aspif.specs.Tables.{size_at, is_weighted, heads_at, bound_at, body_words_at, body_at, rule_at}
 use Rattle.aspif.specs.Text.{rule_numbers}
 use Rattle.aspif.specs.Claims.{WeighingWithin}
 use Rattle.aspif.proofs.PairWords.{light-decides, length-paired}
@@ -61,7 +61,7 @@ module _ (ws : List ℤ) (h : RuleHeld ws) (long : is_long (rule_at ws).body ≡
   long-bound = weighing.1
 
   pub pairs-are : body_words_at ws ≡ pair_words (paired (body_words_at ws))
-  pairs-are = ap body_words_at h.words ∙ body-words-at (rule_at ws) h.rest ∙ ap body_words long-is
+  pairs-are = ap body_words_at h.words ∙ body-words-at (rule_at ws) (drop (size_at ws) ws) ∙ ap body_words long-is
 
   pub pairs-light : all_weights (body_words_at ws) ≡ true
   pairs-light = ap all_weights pairs-are ∙ is_true (light-decides (paired (body_words_at ws))) weighing.2

@@ -1,13 +1,13 @@
 -- What the private functions say of the table's rules and of the lines that are written for them. No reader of the
 -- public contract needs it.
 -- Assumes nothing.
-use Rattle.std.specs.Prelude.{◌≡◌, Bool, false, List, ◌++◌, ℕ, suc, ◌+◌, ◌-◌, ◌≤◌, min, ltb, ℤ, length}
+use Rattle.std.specs.Prelude.{◌≡◌, Bool, false, List, ◌++◌, ℕ, suc, ◌+◌, ◌-◌, ◌≤◌, min, ltb, ℤ, length, drop}
 use Rattle.words.specs.Lists.{◌∈◌}
 use Rattle.words.specs.Limits.{largest, most_literals, most_rules}
 use Rattle.weights.specs.Weights.{most_weighted}
 use Rattle.text.specs.Writing.{Put}
 use Rattle.aspif.specs.Rules.{Body, plain, weights, InputRule, rule_words, program_words, table_words, atoms}
-use Rattle.aspif.specs.Tables.{rule_at, rules_at}
+use Rattle.aspif.specs.Tables.{size_at, rule_at, rules_at}
 use Rattle.aspif.specs.Text.{program_text}
 use Rattle.aspif.specs.Claims.{FormedWithin}
 use Rattle.sums.specs.Plans.{Item, split_item, needs, all_needs, in_turn}
@@ -18,14 +18,12 @@ use Rattle.joins.specs.declared.chains.Numbered.{Numbered}
 
 -- a rule that the reader takes with sums of 64 literals stands at the front
 pub record RuleHeld (ws : List ℤ) : Type 0 where
-  pub rest : List ℤ
-  pub words : ws ≡ rule_words (rule_at ws) ++ rest
+  pub words : ws ≡ rule_words (rule_at ws) ++ drop (size_at ws) ws
   pub formed : FormedWithin most_literals (rule_at ws)
 
 -- and so many such rules
 pub record RulesHeld (n : ℕ) (ws : List ℤ) : Type 0 where
-  pub rest : List ℤ
-  pub words : ws ≡ program_words (rules_at n ws) ++ rest
+  pub words : ws ≡ program_words (rules_at n ws) ++ drop (length (program_words (rules_at n ws))) ws
   pub formed : (r : InputRule) → r ∈ rules_at n ws → FormedWithin most_literals r
 
 -- a table that was read with sums of 64 literals

@@ -13,43 +13,33 @@ ghost use Rattle.sums.specs.Levels.{planned, split_program, in_groups, sorted_gr
 ghost use Rattle.totalizer.specs.Emitting.{most_line, line_of, Bounded, Emits};
 ghost use Rattle.long_sums.specs.Program.{RuleHeld, RulesHeld, is_long, item_of, ItemEmitted, ItemsEmitted, ProgramWritten};
 
-use crate::ordering;
+use crate::rules::WideRule;
+use crate::{ordering, rules};
 use aspif::tables;
 use joins::chains;
 use joins::chains::Numbered;
 use text::writing;
 use totalizer::texts;
 use totalizer::texts::Place;
-use weights::MOST_WEIGHTED;
 use words::{MOST_LITERALS, MOST_RULES};
 
-// The rule at the front has a sum of more than 12 literals.
-fn is_long(words: &[i32]) -> bool
-    requires { RuleHeld words.now }
-    ensures { result ≡ is_long (rule_at words.now).body }
-{
-    tables::is_weighted(words) & (MOST_WEIGHTED < words::variable_of(words[3]))
-}
-
-// The line of the rule that gives the heads of the rule at the front from an atom.
-fn put_headed(output: &mut [u8], at: usize, words: &[i32], atom: usize) -> usize
-    requires rule { RuleHeld words.now }
+// The line of the rule that gives a rule's heads from an atom.
+fn put_headed(output: &mut [u8], at: usize, rule: &WideRule, atom: usize) -> usize
     requires room { at + (22 * most_line + 2) ≤ farthest }
-    ensures written { Put (line_of (rule_numbers (head_rule (rule_at words.now).kind (rule_at words.now).heads atom)))
+    ensures written { Put (line_of (rule_numbers (head_rule (rule_at rule.now.words.now).kind (rule_at rule.now.words.now).heads atom)))
         output.old output.new at result }
     ensures within { result ≤ at + (22 * most_line + 2) }
 {
-    let heads = texts::put_head(output, at, words);
+    let heads = texts::put_head(output, at, rule.words);
     let count = writing::put_bytes(output, heads, b" 0 1");
     let end = texts::put_size(output, count, atom);
     writing::put_bytes(output, end, b"\n")
 }
 
-// The line of the rule that gives the heads of the rule at the front from an atom, and one rule more.
-fn emit_headed(output: &mut [u8], place: Place, words: &[i32], atom: usize) -> Place
-    requires rule { RuleHeld words.now }
+// The line of the rule that gives a rule's heads from an atom, and one rule more.
+fn emit_headed(output: &mut [u8], place: Place, rule: &WideRule, atom: usize) -> Place
     requires place { Bounded place × (place.rules ≤ most_rules) }
-    ensures { Emits (head_rule (rule_at words.now).kind (rule_at words.now).heads atom ∷ [])
+    ensures { Emits (head_rule (rule_at rule.now.words.now).kind (rule_at rule.now.words.now).heads atom ∷ [])
         output.old output.new place result }
 {
     if place.rules == MOST_RULES {
@@ -58,37 +48,37 @@ fn emit_headed(output: &mut [u8], place: Place, words: &[i32], atom: usize) -> P
             rules: MOST_RULES + 1,
         };
     }
-    let at = put_headed(output, place.at, words, atom);
+    let at = put_headed(output, place.at, rule, atom);
     Place {
         at,
         rules: place.rules + 1,
     }
 }
 
-// The rules of the long sum of the rule at the front, whose pairs stand in order, and the rule that gives its heads.
+// The rules of the long sum of a rule, whose pairs stand in order, and the rule that gives its heads.
 fn emit_ordered(
     output: &mut [u8],
     place: Place,
     atom: usize,
-    words: &[i32],
+    rule: &WideRule,
     pairs: &[i32],
     group: usize,
 ) -> Numbered
-    requires rule { RuleHeld words.now × (is_long (rule_at words.now).body ≡ true) }
+    requires long { is_long (rule_at rule.now.words.now).body ≡ true }
     requires place { Bounded place × (atom ≤ 2000000000) }
     requires group { (2 ≤ group) × (group ≤ 12) }
-    requires pairs { (all_weights pairs.now ≡ true) × (length pairs.now ≡ length (body_words_at words.now))
-        × (in_groups (group - 1) (paired pairs.now) ≡ sorted_groups (group - 1) (paired (body_words_at words.now))) }
-    ensures { ItemEmitted (item_of group (rule_at words.now)) output.old output.new place atom result }
+    requires pairs { (all_weights pairs.now ≡ true) × (length pairs.now ≡ length (body_words_at rule.now.words.now))
+        × (in_groups (group - 1) (paired pairs.now) ≡ sorted_groups (group - 1) (paired (body_words_at rule.now.words.now))) }
+    ensures { ItemEmitted (item_of group (rule_at rule.now.words.now)) output.old output.new place atom result }
 {
-    let bound = tables::bound_of(words);
+    let bound = tables::bound_of(rule.words);
     let sum = chains::emit_long(output, place, atom, pairs, group, bound);
     let end = sum.place;
     if MOST_RULES < end.rules {
         return sum;
     }
     let next = sum.atom;
-    let last = emit_headed(output, end, words, next - 1);
+    let last = emit_headed(output, end, rule, next - 1);
     Numbered {
         place: last,
         atom: next,
@@ -100,34 +90,39 @@ fn emit_split(
     output: &mut [u8],
     place: Place,
     atom: usize,
-    words: &[i32],
+    rule: &WideRule,
     group: usize,
     sorted: &mut [i32],
 ) -> Numbered
-    requires rule { RuleHeld words.now × (is_long (rule_at words.now).body ≡ true) }
+    requires long { is_long (rule_at rule.now.words.now).body ≡ true }
     requires place { Bounded place × (atom ≤ 2000000000) }
     requires group { (2 ≤ group) × (group ≤ 12) }
     requires room { length sorted.old ≡ 128 }
-    ensures { ItemEmitted (item_of group (rule_at words.now)) output.old output.new place atom result }
+    ensures { ItemEmitted (item_of group (rule_at rule.now.words.now)) output.old output.new place atom result }
 {
-    let body = tables::body_of(words);
+    let body = tables::body_of(rule.words);
     let n = body.len();
     ordering::order(body, group, &mut sorted[..n]);
-    emit_ordered(output, place, atom, words, &sorted[..n], group)
+    emit_ordered(output, place, atom, rule, &sorted[..n], group)
 }
 
-// What stands for the rule at the front.
-fn emit_item(output: &mut [u8], place: Place, atom: usize, words: &[i32], group: usize) -> Numbered
-    requires rule { RuleHeld words.now }
+// What stands for a rule.
+fn emit_item(
+    output: &mut [u8],
+    place: Place,
+    atom: usize,
+    rule: &WideRule,
+    group: usize,
+) -> Numbered
     requires place { Bounded place × (atom ≤ 2000000000) }
     requires group { (2 ≤ group) × (group ≤ 12) }
-    ensures { ItemEmitted (item_of group (rule_at words.now)) output.old output.new place atom result }
+    ensures { ItemEmitted (item_of group (rule_at rule.now.words.now)) output.old output.new place atom result }
 {
-    if is_long(words) {
+    if rule.is_long() {
         let mut sorted = [0i32; 2 * MOST_LITERALS];
-        return emit_split(output, place, atom, words, group, &mut sorted);
+        return emit_split(output, place, atom, rule, group, &mut sorted);
     }
-    let end = texts::emit_rule(output, place, words);
+    let end = texts::emit_rule(output, place, rule.words);
     Numbered { place: end, atom }
 }
 
@@ -147,17 +142,13 @@ fn emit_rules(
         output.old output.new place atom result }
 {
     let mut here = Numbered { place, atom };
-    let mut left = rules;
-    let mut i = 0;
-    while 0 < left {
+    for rule in rules::rules_in(table, rules) {
         let p = here.place;
         let next = here.atom;
         if MOST_RULES < p.rules {
             return here;
         }
-        here = emit_item(output, p, next, &table[i..], group);
-        i = tables::next_rule(table, i);
-        left -= 1;
+        here = emit_item(output, p, next, &rule, group);
     }
     here
 }

@@ -1,24 +1,23 @@
 -- The edges between places, marked one after another: what is marked and what is left make the whole.
 -- Assumes nothing.
 use mathlib.Core.Path.{◌≡◌, refl, sym, ◌∙◌, ap}
-use mathlib.Core.Bool.{Bool, false, ◌&&◌, ◌||◌, or_assoc, or_comm, or-false, and-or_distrib_left, and-or_distrib_right}
+use mathlib.Core.Bool.{Bool, false, ◌&&◌, ◌||◌, or_assoc, or-false, and-or_distrib_left, and-or_distrib_right}
 use mathlib.Core.List.{List}
-use Prim.Native.Nat.{ℕ, suc, ◌+◌, ◌*◌, ◌-◌, ◌≤◌, ◌<◌}
+use Prim.Native.Nat.{ℕ, suc, ◌+◌, ◌*◌, ◌≤◌, ◌<◌}
 use native.Mathlib.Omega.{arith}
 use native.Mathlib.Numerals.{add-one}
 use borrow.Author.Tests.{ne_eqb}
 use lib.Dec.{eqb}
 use lib.IntN.{ℤ, pos}
-use lib.ListN.{length, get_or, drop, set, replicate, length-set, length-replicate}
+use lib.ListN.{length, get_or, drop, replicate, length-replicate}
 use lib.Seq.{drop-cons}
 use Rattle.words.specs.Limits.{most_numbers}
 use Rattle.words.specs.Lists.{any}
-use Rattle.words.proofs.Lists.{same_test, and-decides, eqb-decides}
 use Rattle.weights.specs.Weights.{paired}
 use Rattle.weights.proofs.Matching.{pair-on}
 use Rattle.aspif.specs.Rules.{InputRule}
 use Rattle.marks.specs.Marks.{marked}
-use Rattle.marks.proofs.Sets.{marked-set, none-marked}
+use Rattle.marks.proofs.Sets.{none-marked}
 use Rattle.loops.specs.Edges.{cells, edge_at, More, any_marked, rule_edge, Edges}
 
 pub record Filling (e : List ℕ) (left whole : ℕ → ℕ → Bool) : Type 0 where
@@ -70,26 +69,6 @@ more_same {e} M same = record {
 pub no_place : {a : ℕ} (i : ℕ) → a ≤ 0 → eqb a (suc i) ≡ false
 no_place {a} i h = ne_eqb a (suc i) (λ e. omega (arith, e))
 
-module _ (a b : ℕ) (h₁ : 1 ≤ a) (h₂ : a ≤ most_numbers) (h₃ : 1 ≤ b) (h₄ : b ≤ most_numbers) where
-  abbrev cell : ℕ
-  cell = (a - 1) * most_numbers + (b - 1)
-
-  cell-is : (i j : ℕ) → j < most_numbers → eqb (i * most_numbers + j) cell ≡ (eqb a (suc i) && eqb b (suc j))
-  cell-is i j k =
-      same_test (eqb-decides (i * most_numbers + j) cell) (and-decides (eqb-decides a (suc i)) (eqb-decides b (suc j)))
-      (λ e. (omega (arith, e), omega (arith, e)))
-      (λ p. omega (arith, p.0, p.1))
-
-  -- one more
-  pub more-one : (e after : List ℕ) → length e ≡ cells → after ≡ set e cell 1
-      → More (λ i j. eqb a (suc i) && eqb b (suc j)) e after
-  more-one e after l q = record {
-    long = ap length q ∙ length-set e cell 1 ∙ l;
-    has = λ i j g k.
-        rw (q, marked-set e cell (i * most_numbers + j) (omega arith), cell-is i j k)
-        (or_comm (eqb a (suc i) && eqb b (suc j)) (edge_at e i j));
-  }
-
 -- One element off what is left
 
 module _ {A : Type 0} (f : A → Bool) (l : List A) (k : ℕ) (d : A) (h : k < length l) where
@@ -103,13 +82,13 @@ module _ {A : Type 0} (f : A → Bool) (l : List A) (k : ℕ) (d : A) (h : k < l
   body-split p = ap (λ (b : Bool). b && p) split-any ∙ and-or_distrib_right (f (get_or l k d)) (any f (drop (k + 1) l)) p
 
 -- one pair
-module _ (f : ℤ → Bool) (m : List ℕ) (k : ℕ) (ws : List ℤ) (i : ℕ) (h : i + 1 < length ws) where
+module _ (f : ℤ → Bool) (m : List ℕ) (k : ℕ) (ws : List ℤ) (i : ℕ) (h : i + 1 < length ws) {next : ℕ} (e : next ≡ i + 2) where
   split-pair : any_marked f m k (paired (drop i ws))
-      ≡ ((marked m k && f (get_or ws i (pos 0))) || any_marked f m (k + 1) (paired (drop (i + 2) ws)))
-  split-pair = rw (pair-on ws i h, add-one) refl
+      ≡ ((marked m k && f (get_or ws i (pos 0))) || any_marked f m (k + 1) (paired (drop next ws)))
+  split-pair = rw (e, pair-on ws i h, add-one) refl
 
   pub pair-split : (p : Bool) → (any_marked f m k (paired (drop i ws)) && p)
-      ≡ (((marked m k && f (get_or ws i (pos 0))) && p) || (any_marked f m (k + 1) (paired (drop (i + 2) ws)) && p))
+      ≡ (((marked m k && f (get_or ws i (pos 0))) && p) || (any_marked f m (k + 1) (paired (drop next ws)) && p))
   pair-split p =
       ap (λ (b : Bool). b && p) split-pair
-      ∙ and-or_distrib_right (marked m k && f (get_or ws i (pos 0))) (any_marked f m (k + 1) (paired (drop (i + 2) ws))) p
+      ∙ and-or_distrib_right (marked m k && f (get_or ws i (pos 0))) (any_marked f m (k + 1) (paired (drop next ws))) p

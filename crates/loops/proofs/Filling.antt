@@ -17,8 +17,8 @@ use Rattle.words.proofs.Parts.{put-tail, mid-front, before-put, length-put}
 use Rattle.weights.specs.Weights.{Weighted, paired, most_weighted}
 use Rattle.weights.proofs.Matching.{pair-on, pair-none}
 use Rattle.aspif.specs.Rules.{weights}
-use Rattle.aspif.specs.Tables.{is_weighted, size_at, body_words_at, bound_at, body_at, rule_at, sound_at, rules_at, sound_rules}
-use Rattle.aspif.proofs.Cursors.{Cursor, AtRule, at-rule, no-rules}
+use Rattle.aspif.specs.Tables.{is_weighted, body_words_at, bound_at, body_at, rule_at, sound_at, rules_at, starts_at}
+use Rattle.aspif.proofs.Cursors.{starts-length, rules_from_starts}
 use Rattle.aspif.proofs.SoundWeights.{weighing}
 use Rattle.loops.specs.Relevance.{RelevantPairs, RelevantRule, Relevant}
 
@@ -52,15 +52,15 @@ module _ (g : Weighted → ℕ) (pairs : List ℤ) where
       pub filled_in : x ∈ paired pairs
       filled_in = f.of x (rw (pair-on pairs i h) (Memᴰ.head refl))
 
-      pub filled_more : {v : ℕ} → v ≡ g x → Filled (set entries n v) (n + 1) (i + 2)
-      filled_more {v} e = record {
+      pub filled_more : {v next : ℕ} → v ≡ g x → next ≡ i + 2 → Filled (set entries n v) (n + 1) next
+      filled_more {v} e on = rw on (record {
         within = omega arith;
         room = omega (arith, f.room, ap length (pair-on pairs i h), length-set entries n v);
         are = rw (add-one n, take-suc-set entries n v filled-room, e)
             (append_assoc (take n entries) (g x ∷ []) (map g (paired (drop (i + 2) pairs)))
             ∙ ap (λ (l : List Weighted). take n entries ++ map g l) (sym (pair-on pairs i h)) ∙ f.are);
         of = λ y j. f.of y (rw (pair-on pairs i h) (Memᴰ.tail j));
-      }
+      })
 
 -- A rule with a weight body
 
@@ -91,30 +91,26 @@ entries-as ws s m m' e r = by (is_weighted ws) refl
 drop-tail : (a : ℕ) (xs ys : List ℕ) → a ≤ length xs → length ys ≡ length xs - a → drop a (put_mid a (length xs - a) xs ys) ≡ ys
 drop-tail a xs ys h n = rw (put-tail a xs ys h) (drop_at (take a xs) ys a (length-take-le a xs h))
 
--- The loop of `fill`: the entries before place `at` are made, of the rules before word i, and right whatever stands behind them
+-- The loop of `fill`: the entries before place `at` are made, of the rules before those that begin at `starts`, and right
+-- whatever stands behind them
 
-pub record Entering (table : List ℤ) (rules : ℕ) (relevant : List ℕ) (at left i : ℕ) : Type 0 where
-  pub cursor : Cursor table left i
-  pub room : at + most_weighted * left ≤ length relevant
-  pub done : (m : List ℕ) → take at m ≡ take at relevant → Relevant (drop at m) (rules_at left (drop i table))
+pub record Entering (table : List ℤ) (rules : ℕ) (relevant : List ℕ) (at : ℕ) (starts : List (List ℤ)) : Type 0 where
+  pub room : at + most_weighted * length starts ≤ length relevant
+  pub done : (m : List ℕ) → take at m ≡ take at relevant → Relevant (drop at m) (map rule_at starts)
       → Relevant m (rules_at rules table)
 
 module _ {table : List ℤ} {rules : ℕ} where
-  pub entering-none : {relevant : List ℕ} → sound_rules rules table ≡ true → most_weighted * rules ≤ length relevant
-      → Entering table rules relevant 0 rules 0
-  entering-none s h = record { cursor = record { within = omega arith; sound = s }; room = omega arith; done = λ m e r. r }
+  pub entering-none : {relevant : List ℕ} → most_weighted * rules ≤ length relevant → Entering table rules relevant 0 (starts_at rules table)
+  entering-none h = record { room = omega (arith, h, starts-length rules table); done = λ m e r. rw (rules_from_starts rules table) r }
 
-  module _ {relevant : List ℕ} {at left i : ℕ} (f : Entering table rules relevant at left i) where
-    pub entering-all : left ≤ 0 → Relevant relevant (rules_at rules table)
+  module _ {relevant : List ℕ} {at : ℕ} {starts : List (List ℤ)} (f : Entering table rules relevant at starts) where
+    pub entering-all : starts ≡ [] → Relevant relevant (rules_at rules table)
     unfolding Relevant
-    entering-all h = f.done relevant refl (rw (no-rules left (drop i table) h) tt)
+    entering-all h = f.done relevant refl (rw h tt)
 
-    module _ (h : 0 < left) where
-      pub at-hand : AtRule table left i
-      at-hand = at-rule h f.cursor
-
+    module _ {ws : List ℤ} {others : List (List ℤ)} (h : starts ≡ ws ∷ others) where
       pub fits : at + most_weighted ≤ length relevant
-      fits = omega (arith, f.room)
+      fits = omega (arith, f.room, ap length h)
 
       abbrev after : List ℕ → List ℕ
       after ys = put_mid at (length relevant - at) relevant ys
@@ -123,13 +119,12 @@ module _ {table : List ℤ} {rules : ℕ} where
       after-length ys n = length-put at (length relevant - at) relevant ys (omega (arith, fits)) n
 
       -- the entries of one more rule, at the front of what was lent
-      pub entering-more : (ys : List ℕ) → length ys ≡ length relevant - at → RelevantRule ys (rule_at (drop i table))
-          → Entering table rules (after ys) (at + most_weighted) (left - 1) (i + size_at (drop i table))
+      pub entering-more : sound_at ws ≡ true → (ys : List ℕ) → length ys ≡ length relevant - at → RelevantRule ys (rule_at ws)
+          → Entering table rules (after ys) (at + most_weighted) others
       unfolding Relevant
-      entering-more ys n r = record {
-        cursor = at-hand.next;
-        room = omega (arith, f.room, after-length ys n);
-        done = λ m e q. f.done m (first m e) (rw at-hand.rules (λ k. rule m e (r k), rw (drop-drop most_weighted at m) q));
+      entering-more s ys n r = record {
+        room = omega (arith, f.room, ap length h, after-length ys n);
+        done = λ m e q. f.done m (first m e) (rw h (λ k. rule m e (r k), rw (drop-drop most_weighted at m) q));
       }
         where
           first : (m : List ℕ) → take (at + most_weighted) m ≡ take (at + most_weighted) (after ys) → take at m ≡ take at relevant
@@ -146,5 +141,5 @@ module _ {table : List ℤ} {rules : ℕ} where
               ∙ ap (mid_of at most_weighted) (sym e) ∙ mid-front at most_weighted (at + most_weighted) m (omega arith)
 
           rule : (m : List ℕ) → take (at + most_weighted) m ≡ take (at + most_weighted) (after ys)
-              → RelevantPairs ys (body_at (drop i table)) → RelevantPairs (drop at m) (body_at (drop i table))
-          rule m e = entries-as (drop i table) at-hand.sound ys (drop at m) (twelve m e)
+              → RelevantPairs ys (body_at ws) → RelevantPairs (drop at m) (body_at ws)
+          rule m e = entries-as ws s ys (drop at m) (twelve m e)

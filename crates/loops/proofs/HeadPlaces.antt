@@ -2,21 +2,20 @@
 -- Assumes nothing.
 use mathlib.Core.Path.{◌≡◌, refl, sym, ◌∙◌, ap, subst}
 use mathlib.Core.Logic.{inl, inr}
-use mathlib.Core.Bool.{Bool, false, ◌||◌, or_assoc, or-false}
+use mathlib.Core.Bool.{Bool, false, ◌||◌, or-false}
 use mathlib.Core.List.Memᴰ
 use mathlib.Core.List.{List, [], ◌∷◌, ◌++◌}
 use Prim.Native.Nat.{ℕ, ◌+◌, ◌≤◌, ◌<◌}
 use native.Mathlib.Omega.{arith}
 use native.Mathlib.Numerals.{add-one}
-use lib.IntN.{ℤ, pos}
-use lib.ListN.{length, take, drop, get_or, set, length-set}
+use lib.IntN.{ℤ}
+use lib.ListN.{length, take, drop, set, length-set}
 use lib.Seq.{take-suc-set}
 use Rattle.words.specs.Limits.{most_numbers}
 use Rattle.words.specs.Lists.{◌∈◌, any}
-use Rattle.words.proofs.Laws.{any_none}
 use Rattle.weights.proofs.Sublists.{any_append}
-use Rattle.loops.specs.Edges.{place_by, is_place, LowPlaces, is_at, Puts, Gathered}
-use Rattle.loops.proofs.EdgeMarks.{no_place, split-any}
+use Rattle.loops.specs.Edges.{is_place, LowPlaces, is_at, Puts, Gathered}
+use Rattle.loops.proofs.EdgeMarks.{no_place}
 
 -- no place
 pub puts_none : (n place : ℕ) (row : List ℕ) → place ≡ 0 → Puts n place row row n
@@ -48,31 +47,6 @@ pub record Gathering (m : List ℕ) (l : List ℤ) (row : List ℕ) (n k : ℕ) 
   pub most : n ≤ k
   pub low : LowPlaces (take n row)
   pub has : (i : ℕ) → (any (is_place i) (take n row) || any (is_at m i) (drop k l)) ≡ any (is_at m i) l
-
-pub gathering-start : (m : List ℕ) (l : List ℤ) (row : List ℕ) → Gathering m l row 0 0
-gathering-start m l row = record { most = omega arith; low = λ p i. elim i [ ]; has = λ i. refl }
-
-pub gathering-on : {m row after : List ℕ} {l : List ℤ} {n k r : ℕ} → k < length l → Gathering m l row n k
-    → Puts n (place_by m (get_or l k (pos 0))) row after r → Gathering m l after r (k + 1)
-gathering-on {m} {row} {after} {l} {n} {k} {r} h G P = record {
-  most = omega (arith, G.most, P.most);
-  low = P.low G.low;
-  has = λ i.
-      ap (λ (b : Bool). b || any (is_at m i) (drop (k + 1) l)) (P.has i)
-      ∙ or_assoc (any (is_place i) (take n row)) (is_at m i (get_or l k (pos 0))) (any (is_at m i) (drop (k + 1) l))
-      ∙ ap (λ (b : Bool). any (is_place i) (take n row) || b) (sym (split-any (is_at m i) l k (pos 0) h))
-      ∙ G.has i;
-}
-
-pub gathering-end : {m row : List ℕ} {l : List ℤ} {n k : ℕ} → k ≤ length l → length l ≤ k → Gathering m l row n k → Gathered m l row n
-gathering-end {m} {row} {l} {n} {k} g h G = record {
-  most = omega (arith, G.most);
-  low = G.low;
-  has = λ i.
-      sym (or-false (any (is_place i) (take n row)))
-      ∙ ap (λ (b : Bool). any (is_place i) (take n row) || b) (sym (any_none (is_at m i) l h))
-      ∙ G.has i;
-}
 
 -- no literal has a place
 pub gathered_none : {m row : List ℕ} {l : List ℤ} {n : ℕ} → Gathered m l row n → n ≡ 0 → (i : ℕ) → any (is_at m i) l ≡ false

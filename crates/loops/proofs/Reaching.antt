@@ -2,19 +2,19 @@
 -- Assumes nothing.
 use mathlib.Core.Path.{◌≡◌, refl, sym, ◌∙◌, ap}
 use mathlib.Core.Logic.{◌⊎◌, inl, inr}
-use mathlib.Core.Bool.{Bool, true, false, cond, not, ◌&&◌, ◌||◌, or-false, true≢false}
+use mathlib.Core.Bool.{Bool, true, false, cond, not, ◌&&◌, ◌||◌, true≢false}
 use mathlib.Core.List.Memᴰ
 use mathlib.Core.List.{List, [], ◌∷◌}
 use Prim.Native.Nat.{ℕ, zero, suc, ◌≤◌, ◌<◌}
 use native.Mathlib.Omega.{arith}
-use borrow.Author.Tests.{eq-eqb}
 use lib.Dec.{T, eqb}
 use lib.IntN.{ℤ, pos}
+use Rattle.std.proofs.Common.{None}
 use lib.ListN.{length, get_or, set, replicate, length-set, length-replicate}
 use lib.Seq.{get_or-set_same, get_or-set_other}
 use Rattle.words.specs.Limits.{most_numbers}
 use Rattle.words.specs.Lists.{◌∈◌, filter}
-use Rattle.words.proofs.Lists.{Decides, passed, itself, or-decides, eqb-decides, same_test, keep-lt}
+use Rattle.words.proofs.Lists.{Decides, passed, itself, or-decides, same_test, keep-lt}
 use Rattle.words.proofs.Places.{equal?, in-at, place-of}
 use Rattle.aspif.specs.Rules.{InputRule, expand}
 use Rattle.marks.specs.Marks.{marked}
@@ -52,27 +52,6 @@ pub record Spreading (f : ℕ → Bool) (n b : ℕ) (before m : List ℕ) : Type
   pub long : length m ≡ most_numbers
   pub past : (c : ℕ) → c < b → marked m c ≡ (marked before c || f c)
   pub left : (c : ℕ) → b ≤ c → c < n → marked m c ≡ marked before c
-
-pub spreading-on : {f : ℕ → Bool} {n b b' : ℕ} {before m after : List ℕ} → n ≤ most_numbers → b < n → b' ≡ suc b
-    → Spreading f n b before m → Noted b (f b) m after
-    → Spreading f n b' before after
-spreading-on {f} {n} {b} {b'} {before} {m} {after} k h e s w = record {
-  long = w.long;
-  past = λ c l. past c l (equal? c b);
-  left = λ c g l. w.has c (omega arith) ∙ none (eqb c b) (other c g) (marked m c) ∙ s.left c (omega arith) l;
-}
-  where
-    other : (c : ℕ) → b' ≤ c → ¬ T (eqb c b)
-    other c g t = omega (arith, (eqb-decides c b).to t)
-
-    none : (x : Bool) → ¬ T x → (y : Bool) → (y || (x && f b)) ≡ y
-    none true n y = absurd (n tt)
-    none false n y = or-false y
-
-    past : (c : ℕ) → c < b' → (c ≡ b) ⊎ (¬ (c ≡ b)) → marked after c ≡ (marked before c || f c)
-    past c l (inl q) = rw q (w.has b (omega arith) ∙ rw (eq-eqb b b refl, s.left b (omega arith) h) refl)
-    past c l (inr q) =
-        w.has c (omega arith) ∙ none (eqb c b) (λ t. q ((eqb-decides c b).to t)) (marked m c) ∙ s.past c (omega (arith, q))
 
 -- The search
 
@@ -123,12 +102,12 @@ module _ (f : ℕ → ℕ → Bool) (n : ℕ) where
           old : T (marked (set done a 1) c) → T (marked done c)
           old u = rw (get_or-set_other done a c 1 0 e) at u
 
-  pub reaching-end : {found done : List ℕ} {a : ℕ} → n ≤ a → Open found done n a → Reaching f n found done → Searched f n found
-  reaching-end {found} {done} h o r = record { to = r.sound; from = λ b w. all w }
+  pub reaching-end : {found done : List ℕ} → Open found done n None → Reaching f n found done → Searched f n found
+  reaching-end {found} {done} o r = record { to = r.sound; from = λ b w. all w }
     where
       all : {b : ℕ} → Way f n b → T (marked found b)
       all (first l t) = r.begun _ l t
-      all (on {a = a} w l t) = r.closed a _ l ((passed _).from (o.none h a (way-low w) ((passed _).to (all w)))) t
+      all (on {a = a} w l t) = r.closed a _ l ((passed _).from (o a (way-low w) ((passed _).to (all w)))) t
 
 -- how many places are not done
 abbrev below : ℕ → List ℕ

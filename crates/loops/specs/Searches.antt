@@ -1,7 +1,7 @@
 -- What the functions of src/searches.rt promise: the places that the first place leads to, one edge after another.
 -- No reader of a public contract needs it.
 -- Assumes nothing.
-use Rattle.std.specs.Prelude.{◌≡◌, Bool, true, cond, not, ◌&&◌, ◌||◌, List, ℕ, ◌≤◌, ◌<◌, T, eqb, length}
+use Rattle.std.specs.Prelude.{◌≡◌, Bool, true, cond, not, ◌&&◌, ◌||◌, List, ℕ, ◌<◌, Option, Some, None, T, eqb, length}
 use Rattle.words.specs.Limits.{most_numbers}
 use Rattle.marks.specs.Marks.{marked}
 use Rattle.loops.specs.Edges.{edge_at}
@@ -20,10 +20,10 @@ pub record Spread (f : ℕ → Bool) (n : ℕ) (before after : List ℕ) : Type 
   pub long : length after ≡ most_numbers
   pub has : (b : ℕ) → b < n → marked after b ≡ (marked before b || f b)
 
--- r is found and not done; or, where it is n, all that is found is done
-pub record Open (found done : List ℕ) (n r : ℕ) : Type 0 where
-  pub is : r < n → (marked found r && not (marked done r)) ≡ true
-  pub none : n ≤ r → (b : ℕ) → b < n → marked found b ≡ true → marked done b ≡ true
+-- the place is found and not done; or there is none, and all that is found is done
+abbrev pub Open : List ℕ → List ℕ → ℕ → Option ℕ → Type 0
+Open found done n (Some v) = (v < n) × ((marked found v && not (marked done v)) ≡ true)
+Open found done n None = (b : ℕ) → b < n → marked found b ≡ true → marked done b ≡ true
 
 -- a way from place 0, of one or more edges
 pub data Way (f : ℕ → ℕ → Bool) (n : ℕ) : ℕ → Type 0 where

@@ -4,13 +4,14 @@ ghost use Rattle.std.specs.Prelude.{◌≡◌, true, ◌&&◌, List, [], ◌∷�
 ghost use Rattle.words.specs.Limits.{largest, most_numbers};
 ghost use Rattle.words.specs.Lists.{any};
 ghost use Rattle.weights.specs.Weights.{paired, most_weighted};
-ghost use Rattle.aspif.specs.Tables.{rule_at, shape_sound, rules_at, sound_rules};
+ghost use Rattle.aspif.specs.Tables.{rule_at, rules_at, sound_rules};
 ghost use Rattle.heads.specs.Heads.{Covers, Indexed};
 ghost use Rattle.loops.specs.Relevance.{RelevantRule, Relevant};
 ghost use Rattle.loops.specs.Edges.{Members, place_by, Placed, Low, is_place, LowPlaces, is_at, cells, More, any_marked, rule_edge, Edges};
 ghost use Rattle.loops.specs.Edges.{Puts, Gathered};
 
 use aspif::tables;
+use aspif::tables::Rule;
 use heads::MOST_HEADS;
 use weights::MOST_WEIGHTED;
 use words::{ENTRIES, MOST_HELD, MOST_LITERALS, MOST_NUMBERS};
@@ -22,24 +23,22 @@ pub const CELLS: usize = MOST_NUMBERS * MOST_NUMBERS;
 fn byte_at(bytes: &[u8], v: usize) -> usize
     ensures { result ≡ get_or bytes.now v 0 }
 {
-    if v < bytes.len() {
-        words::wide_byte(bytes[v])
-    } else {
-        0
+    match bytes.get(v) {
+        Some(b) => usize::from(*b),
+        None => 0,
     }
 }
 
 // For each variable its place in the line, counted from 1; 0 for none.
+// 0 and no Option: Option<u8> takes two bytes for each of 8,192 variables.
 pub fn places_of(numbers: &[i32]) -> [u8; ENTRIES]
     requires { Members numbers.now }
     ensures { Placed result numbers.now }
 {
     let mut places = [0u8; ENTRIES];
-    let mut i = 0;
-    while i < numbers.len() {
+    for i in 0..numbers.len() {
         let v = words::variable_of(numbers[i]);
-        i += 1;
-        places[v] = i as u8;
+        places[v] = (i + 1) as u8;
     }
     places
 }
@@ -48,11 +47,11 @@ pub fn places_of(numbers: &[i32]) -> [u8; ENTRIES]
 fn place_of(word: i32, places: &[u8]) -> usize
     ensures { result ≡ place_by places.now word }
 {
-    let place = byte_at(places, words::variable_of(word));
-    if !words::is_positive(word) {
-        return 0;
+    if words::is_positive(word) {
+        byte_at(places, words::variable_of(word))
+    } else {
+        0
     }
-    place
 }
 
 // An edge from place a to place b, both counted from 1; none where b is 0.
@@ -71,10 +70,8 @@ fn mark_heads(a: usize, heads: &[u8], edges: &mut [u8])
     requires { (length edges.old ≡ cells) × (1 ≤ a) × (a ≤ most_numbers) × LowPlaces heads.now }
     ensures { More (λ i j. eqb a (suc i) && any (is_place j) heads.now) edges.old edges.new }
 {
-    let mut k = 0;
-    while k < heads.len() {
-        mark_edge(edges, a, words::wide_byte(heads[k]));
-        k += 1;
+    for h in heads {
+        mark_edge(edges, a, usize::from(*h));
     }
 }
 
@@ -96,10 +93,8 @@ fn mark_body(body: &[i32], heads: &[u8], places: &[u8], edges: &mut [u8])
     ensures { More (λ i j. any (is_at places.now i) body.now && any (is_place j) heads.now)
         edges.old edges.new }
 {
-    let mut k = 0;
-    while k < body.len() {
-        mark_literal(body[k], heads, places, edges);
-        k += 1;
+    for x in body {
+        mark_literal(*x, heads, places, edges);
     }
 }
 
@@ -120,18 +115,14 @@ fn mark_pairs(pairs: &[i32], relevant: &[u8], heads: &[u8], places: &[u8], edges
     ensures { More (λ i j. any_marked (is_at places.now i) relevant.now 0 (paired pairs.now)
         && any (is_place j) heads.now) edges.old edges.new }
 {
-    let mut k = 0;
-    let mut i = 0;
-    while i + 1 < pairs.len() {
+    for k in 0..pairs.len() / 2 {
         mark_if(
             marks::is_marked(relevant, k),
-            pairs[i],
+            pairs[2 * k],
             heads,
             places,
             edges,
         );
-        i += 2;
-        k += 1;
     }
 }
 
@@ -153,31 +144,29 @@ fn gather(heads: &[i32], places: &[u8], row: &mut [u8]) -> usize
     ensures { Gathered places.now heads.now row.new result }
 {
     let mut n = 0;
-    let mut k = 0;
-    while k < heads.len() {
-        n = put_place(row, n, place_of(heads[k], places));
-        k += 1;
+    for h in heads {
+        n = put_place(row, n, place_of(*h, places));
     }
     n
 }
 
-// The edges of the rule at the front; `relevant` has the entries of its pairs.
-fn mark_rule(words: &[i32], relevant: &[u8], places: &[u8], edges: &mut [u8])
-    requires rule { (shape_sound words.now ≡ true) × RelevantRule relevant.now (rule_at words.now) }
+// The edges of the rule; `relevant` has the entries of its pairs.
+fn mark_rule(rule: &Rule, relevant: &[u8], places: &[u8], edges: &mut [u8])
+    requires entries { RelevantRule relevant.now (rule_at rule.now.words.now) }
     requires sizes { (length edges.old ≡ cells) × Low places.now }
-    ensures { More (λ i j. rule_edge places.now i j (rule_at words.now))
+    ensures { More (λ i j. rule_edge places.now i j (rule_at rule.now.words.now))
         edges.old edges.new }
 {
     let mut row = [0u8; MOST_LITERALS];
-    let n = gather(tables::heads_of(words), places, &mut row);
+    let n = gather(rule.heads(), places, &mut row);
     if n == 0 {
         return;
     }
-    if tables::is_weighted(words) {
-        mark_pairs(tables::body_of(words), relevant, &row[..n], places, edges);
+    if rule.is_weighted() {
+        mark_pairs(rule.body(), relevant, &row[..n], places, edges);
         return;
     }
-    mark_body(tables::body_of(words), &row[..n], places, edges);
+    mark_body(rule.body(), &row[..n], places, edges);
 }
 
 // Where the entries of the next rule's pairs begin; the end where there are none.
@@ -199,14 +188,10 @@ fn scan(table: &[i32], rules: usize, relevant: &[u8], places: &[u8]) -> [u8; CEL
     ensures { Edges places.now (rules_at rules table.now) result }
 {
     let mut edges = [0u8; CELLS];
-    let mut left = rules;
-    let mut i = 0;
     let mut at = 0;
-    while 0 < left {
-        mark_rule(&table[i..], &relevant[at..], places, &mut edges);
-        i = tables::next_rule(table, i);
+    for rule in tables::rules_in(table, rules) {
+        mark_rule(&rule, &relevant[at..], places, &mut edges);
         at = next_entries(relevant, at);
-        left -= 1;
     }
     edges
 }
@@ -230,8 +215,8 @@ fn mark_chain(
     let mut p = heads::first_head(lookup, v);
     while 0 < p {
         let x = p - 1;
-        let words = heads::words_of(table, rules, lookup, x);
-        mark_body(tables::body_of(words), head, places, edges);
+        let rule = heads::rule_of(table, rules, lookup, x);
+        mark_body(rule.body(), head, places, edges);
         p = heads::next_head(lookup, x);
     }
 }
@@ -249,9 +234,8 @@ fn look_up(
     ensures { Edges places.now (rules_at rules table.now) result }
 {
     let mut edges = [0u8; CELLS];
-    let mut j = 0;
-    while j < numbers.len() {
-        let v = words::variable_of(numbers[j]);
+    for x in numbers {
+        let v = words::variable_of(*x);
         mark_chain(
             table,
             rules,
@@ -261,7 +245,6 @@ fn look_up(
             places,
             &mut edges,
         );
-        j += 1;
     }
     edges
 }
@@ -270,19 +253,14 @@ fn look_up(
 fn left_after(lookup: &[u16], v: usize, most: usize) -> usize
     requires { v ≤ largest }
 {
-    let mut left = most;
     let mut p = heads::first_head(lookup, v);
-    while 0 < left {
-        if p == 0 {
-            return left;
-        }
-        if MOST_HEADS < p {
-            return left;
+    for taken in 0..most {
+        if p == 0 || MOST_HEADS < p {
+            return most - taken;
         }
         p = heads::next_head(lookup, p - 1);
-        left -= 1;
     }
-    left
+    0
 }
 
 // There are no more heads in the set than rules. Only time hangs on it: by the index a rule is read once for each head in the set, in the
@@ -290,11 +268,9 @@ fn left_after(lookup: &[u16], v: usize, most: usize) -> usize
 fn are_few(rules: usize, lookup: &[u16], numbers: &[i32]) -> bool
     requires { Members numbers.now }
 {
-    let mut left = weights::smaller(rules, MOST_HELD) + 1;
-    let mut j = 0;
-    while j < numbers.len() {
-        left = left_after(lookup, words::variable_of(numbers[j]), left);
-        j += 1;
+    let mut left = rules.min(MOST_HELD) + 1;
+    for x in numbers {
+        left = left_after(lookup, words::variable_of(*x), left);
     }
     0 < left
 }
@@ -313,10 +289,8 @@ pub fn edges_of(
     requires places { Members numbers.now × Placed places.now numbers.now }
     ensures { Edges places.now (rules_at rules table.now) result }
 {
-    if heads::is_covered(lookup) {
-        if are_few(rules, lookup, numbers) {
-            return look_up(table, rules, lookup, numbers, places);
-        }
+    if heads::is_covered(lookup) && are_few(rules, lookup, numbers) {
+        return look_up(table, rules, lookup, numbers, places);
     }
     scan(table, rules, relevant, places)
 }

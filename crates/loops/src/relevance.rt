@@ -1,21 +1,15 @@
 // Which literals of the rules' weight bodies stand in some plain body, by rule and pair.
-ghost use Rattle.std.specs.Prelude.{◌≡◌, true, cond, ◌*◌, ◌-◌, ◌≤◌, length};
+ghost use Rattle.std.specs.Prelude.{◌≡◌, true, ◌*◌, ◌≤◌, length};
 ghost use Rattle.words.specs.Lists.{◌∈◌};
 ghost use Rattle.words.specs.Literals.{variable, rising};
 ghost use Rattle.weights.specs.Weights.{sum, literals, paired, most_weighted, most_sum};
 ghost use Rattle.loops.specs.Relevance.{is_relevant, RelevantPairs, RelevantRule, Relevant, has_sum, others};
 ghost use Rattle.aspif.specs.Rules.{weights};
-ghost use Rattle.aspif.specs.Tables.{rule_at, sound_at, rules_at, sound_rules};
+ghost use Rattle.aspif.specs.Tables.{rule_at, rules_at, sound_rules};
 
 use aspif::tables;
+use aspif::tables::Rule;
 use weights::MOST_WEIGHTED;
-
-// The first number less the second, 0 where that is the larger.
-fn less(a: usize, b: usize) -> usize
-    ensures { result ≡ a - b }
-{
-    if b < a { a - b } else { 0 }
-}
 
 // Some of the pairs but that of the literal x add up to `low` or more and to less than `high`; `left` is what they all add up to.
 fn has_sum(pairs: &[i32], x: i32, low: usize, high: usize, left: usize) -> bool
@@ -33,7 +27,13 @@ fn has_sum(pairs: &[i32], x: i32, low: usize, high: usize, left: usize) -> bool
         return has_sum(rest, x, low, high, left);
     }
     let w = words::variable_of(pairs[1]);
-    if has_sum(rest, x, less(low, w), less(high, w), left - w) {
+    if has_sum(
+        rest,
+        x,
+        low.saturating_sub(w),
+        high.saturating_sub(w),
+        left - w,
+    ) {
         return true;
     }
     has_sum(rest, x, low, high, left - w)
@@ -48,14 +48,7 @@ fn is_relevant(pairs: &[i32], bound: usize, literal: i32, weight: i32) -> bool
 {
     let w = words::variable_of(weight);
     let left = weights::sum_of(pairs) - w;
-    has_sum(pairs, literal, less(bound, w), bound, left)
-}
-
-// An entry: 1 where it is so.
-fn one_if(so: bool) -> u8
-    ensures { result ≡ cond so 1 0 }
-{
-    if so { 1 } else { 0 }
+    has_sum(pairs, literal, bound.saturating_sub(w), bound, left)
 }
 
 // The entries of the pairs of a weight body.
@@ -64,24 +57,20 @@ fn fill_pairs(pairs: &[i32], bound: usize, entries: &mut [u8])
         × (length (paired pairs.now) ≤ length entries.old) }
     ensures { RelevantPairs entries.new (weights bound (paired pairs.now)) }
 {
-    let mut n = 0;
-    let mut i = 0;
-    while i + 1 < pairs.len() {
-        entries[n] = one_if(is_relevant(pairs, bound, pairs[i], pairs[i + 1]));
-        n += 1;
-        i += 2;
+    for n in 0..pairs.len() / 2 {
+        entries[n] = u8::from(is_relevant(pairs, bound, pairs[2 * n], pairs[2 * n + 1]));
     }
 }
 
-// The entries of the rule at the front; they matter where it has heads and a weight body.
-fn fill_rule(words: &[i32], entries: &mut [u8])
-    requires { (sound_at words.now ≡ true) × (most_weighted ≤ length entries.old) }
-    ensures { RelevantRule entries.new (rule_at words.now) }
+// The entries of the rule; they matter where it has heads and a weight body.
+fn fill_rule(rule: &Rule, entries: &mut [u8])
+    requires { most_weighted ≤ length entries.old }
+    ensures { RelevantRule entries.new (rule_at rule.now.words.now) }
 {
-    if tables::is_weighted(words) {
-        let heads = tables::heads_of(words);
+    if rule.is_weighted() {
+        let heads = rule.heads();
         if 0 < heads.len() {
-            fill_pairs(tables::body_of(words), tables::bound_of(words), entries);
+            fill_pairs(rule.body(), rule.bound(), entries);
         }
     }
 }
@@ -92,13 +81,8 @@ pub fn fill(table: &[i32], rules: usize, relevant: &mut [u8])
     ensures { Relevant relevant.new (rules_at rules table.now) }
 {
     let mut at = 0;
-    let mut left = rules;
-    let mut i = 0;
-    while 0 < left {
-        let rest = &table[i..];
-        fill_rule(rest, &mut relevant[at..]);
+    for rule in tables::rules_in(table, rules) {
+        fill_rule(&rule, &mut relevant[at..]);
         at += MOST_WEIGHTED;
-        i = tables::next_rule(table, i);
-        left -= 1;
     }
 }

@@ -32,10 +32,8 @@ fn spread(edges: &[u8], back: bool, n: usize, a: usize, found: &mut [u8])
     requires { (n ≤ most_numbers) × (a < most_numbers) × (length found.old ≡ most_numbers) }
     ensures { Spread (steps edges.now back a) n found.old found.new }
 {
-    let mut b = 0;
-    while b < n {
+    for b in 0..n {
         note(edges, back, a, b, found);
-        b += 1;
     }
 }
 
@@ -43,55 +41,35 @@ fn spread(edges: &[u8], back: bool, n: usize, a: usize, found: &mut [u8])
 fn is_open(found: &[u8], done: &[u8], v: usize) -> bool
     ensures { result ≡ (marked found.now v && not (marked done.now v)) }
 {
-    if marks::is_marked(found, v) {
-        return !marks::is_marked(done, v);
-    }
-    false
+    marks::is_marked(found, v) && !marks::is_marked(done, v)
 }
 
-// A place below n that is found and not done; where there is none, n or more.
-fn next_open(found: &[u8], done: &[u8], n: usize) -> usize
+// The first place below n that is found and not done.
+fn next_open(found: &[u8], done: &[u8], n: usize) -> Option<usize>
     ensures { Open found.now done.now n result }
 {
-    let mut v = 0;
-    while v < n {
-        if is_open(found, done, v) {
-            return v;
-        }
-        v += 1;
-    }
-    v
+    (0..n).find(|v| is_open(found, done, *v))
 }
 
-// Place a is done: what it leads to is found. The next place that is open.
-fn advance(edges: &[u8], back: bool, n: usize, a: usize, found: &mut [u8], done: &mut [u8]) -> usize
+// Place a is done: what it leads to is found.
+fn advance(edges: &[u8], back: bool, n: usize, a: usize, found: &mut [u8], done: &mut [u8])
     requires { (n ≤ most_numbers) × (a < most_numbers) × (length found.old ≡ most_numbers) }
     ensures { Spread (steps edges.now back a) n found.old found.new
-        × (done.new ≡ set done.old a 1)
-        × Open found.new done.new n result }
+        × (done.new ≡ set done.old a 1) }
 {
     marks::mark(done, a);
     spread(edges, back, n, a, found);
-    next_open(found, done, n)
 }
 
-// The places below n that an edge leads to from place 0, which is not found itself.
-fn begin(edges: &[u8], back: bool, n: usize, found: &mut [u8])
-    requires { (n ≤ most_numbers) × (length found.old ≡ most_numbers) }
-    ensures { Spread (steps edges.now back 0) n found.old found.new }
-{
-    spread(edges, back, n, 0, found);
-}
-
-// The places below n that place 0 reaches; where asked for, those that reach it.
+// The places below n that place 0 reaches; where asked for, those that reach it. Place 0 itself is found only where a
+// way leads back to it.
 fn explore(edges: &[u8], back: bool, n: usize, found: &mut [u8], done: &mut [u8])
     requires { (n ≤ most_numbers) × (found.old ≡ replicate most_numbers 0) × (done.old ≡ replicate most_numbers 0) }
     ensures { Searched (steps edges.now back) n found.new }
 {
-    begin(edges, back, n, found);
-    let mut a = next_open(found, done, n);
-    while a < n {
-        a = advance(edges, back, n, a, found, done);
+    spread(edges, back, n, 0, found);
+    while let Some(a) = next_open(found, done, n) {
+        advance(edges, back, n, a, found, done);
     }
 }
 
@@ -110,12 +88,5 @@ pub fn search(edges: &[u8], back: bool, n: usize) -> [u8; MOST_NUMBERS]
 pub fn is_full(found: &[u8], n: usize) -> bool
     ensures { Full n found.now result }
 {
-    let mut v = 0;
-    while v < n {
-        if !marks::is_marked(found, v) {
-            return false;
-        }
-        v += 1;
-    }
-    true
+    (0..n).all(|v| marks::is_marked(found, v))
 }

@@ -1,16 +1,15 @@
 -- Sets of numbers as marks: one more mark, marks made number by number, and two sets compared.
 -- Assumes nothing.
 use mathlib.Core.Path.{◌≡◌, refl, sym, ◌∙◌, fun_ext, ap}
-use mathlib.Core.Bool.{Bool, true, false, true≢false, beq, ◌&&◌, ◌||◌, and_assoc, or_assoc, or_comm, or-false}
+use mathlib.Core.Bool.{Bool, true, false, true≢false, beq, ◌||◌, or_assoc, or_comm, or-false}
 use mathlib.Core.List.{List, [], ◌∷◌}
 use mathlib.Core.Logic.{inl, inr}
 use Prim.Native.Nat.{ℕ, zero, suc, ◌-◌, ◌≤◌, ◌<◌, ◌+◌}
 use native.Mathlib.Omega.{arith}
 use borrow.Author.Tests.{eqb-true, eqb-false, leb-true}
 use lib.Dec.{eqb, ltb, leb}
-use lib.ListN.{length, set, replicate, length-set, length-replicate, get_or-replicate, drop, drop_of_length-le, get_or}
-use lib.Seq.{get_or-set_same, get_or-set_other, drop-cons}
-use native.Mathlib.Numerals.{add-one}
+use lib.ListN.{length, set, replicate, length-set, length-replicate, get_or-replicate}
+use lib.Seq.{get_or-set_same, get_or-set_other}
 use Rattle.words.specs.Limits.{largest, entries}
 use Rattle.words.proofs.Lists.{Decides, passed, reworded, and-decides, and_right, and_left, or_swap, one_less, nothing_left}
 use Rattle.words.proofs.Places.{equal?}
@@ -41,15 +40,6 @@ pub marks-listed : (high n : ℕ) (l : List ℕ) → ascends 0 high l ≡ true �
 marks-listed high n l e h =
     fun_ext (λ v. marked_all 0 high l (replicate n 0) v e (rw (length-replicate n) h) ∙ rw (none-marked n v) (or-false (listed l v)))
 
--- The loop of `mark_all`
-
-module _ (l m : List ℕ) where
-  pub mark_on : (i : ℕ) → i < length l → mark_all (drop i l) m ≡ mark_all (drop (i + 1) l) (set m (get_or l i 0) 1)
-  mark_on i h = rw (add-one, drop-cons l i 0 h)
-
-  pub mark-end : {i : ℕ} → length l ≤ i → mark_all (drop i l) m ≡ m
-  mark-end h = rw (drop_of_length-le l h)
-
 -- A loop that marks number by number: what is marked and what is left make the whole.
 pub record MarkedSoFar (m left whole : List ℕ) : Type 0 where
   pub long : length m ≡ entries
@@ -71,14 +61,22 @@ found-on {m} {left} {whole} {x} f = record {
 pub found_all : {m whole : List ℕ} → MarkedSoFar m [] whole → Marks m whole
 found_all {m} f = record { long = f.long; has = λ v h. sym (or-false (marked m v)) ∙ f.has v h }
 
--- Numbers from the top down
+-- Numbers from the top down, and in order
 
--- the loop of `marks_to`
 pub up_to-on : (n : ℕ) → 0 < n → up_to n ≡ n ∷ up_to (n - 1)
 up_to-on n h = ap up_to (one_less n h) ∙ ap (λ k. k ∷ up_to (n - 1)) (sym (one_less n h))
 
 pub up_to-end : (n : ℕ) → n ≤ 0 → up_to n ≡ []
 up_to-end n h = ap up_to (nothing_left n h)
+
+-- one more number, above all those before
+pub marks_next : {m : List ℕ} (i : ℕ) → 0 < i → Marks m (up_to (i - 1)) → Marks (set m i 1) (up_to (i + 1 - 1))
+marks_next {m} i h f =
+    let e : i + 1 - 1 ≡ i = omega arith in
+    record {
+      long = length-set m i 1 ∙ f.long;
+      has = λ v b. marked-set m i v (λ k. omega (arith, f.long, b)) ∙ rw (f.has v b) (ap (λ k. listed k v) (sym (ap up_to e ∙ up_to-on i h)));
+    }
 
 -- The same sets
 
@@ -100,17 +98,3 @@ same-marks (suc n) a b = reworded every (λ g. (g n (omega arith), λ v h. g v (
   where
     every : (marked a n ≡ marked b n) × ((v : ℕ) → v < n → marked a v ≡ marked b v) → (v : ℕ) → v < suc n → marked a v ≡ marked b v
     every p v h = elim (equal? v n) [ inl e ↦ rw e p.0 | inr k ↦ p.1 v (omega (arith, k)) ]
-
--- The loop of `is_same_set`
-
-module _ (a b : List ℕ) where
-  pub same-on : {whole here : Bool} (same : Bool) (n : ℕ) → 0 < n → here ≡ agree (marked a (n - 1)) (marked b (n - 1))
-      → whole ≡ (same && same_marks n a b) → whole ≡ ((same && here) && same_marks (n - 1) a b)
-  unfolding same_marks
-  same-on same n h e p =
-      p ∙ ap (λ (k : ℕ). same && same_marks k a b) (one_less n h) ∙ ap (λ (t : Bool). same && (t && same_marks (n - 1) a b)) (sym e)
-      ∙ sym (and_assoc same _ (same_marks (n - 1) a b))
-
-  pub same_end : (n : ℕ) → n ≤ 0 → same_marks n a b ≡ true
-  unfolding same_marks
-  same_end n h = ap (λ k. same_marks k a b) (nothing_left n h)

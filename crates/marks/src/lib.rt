@@ -14,24 +14,20 @@ use words::ENTRIES;
 pub fn is_marked(marks: &[u8], v: usize) -> bool
     ensures { result ≡ marked marks.now v }
 {
-    if v < marks.len() {
-        marks[v] == 1
-    } else {
-        false
-    }
+    marks.get(v).is_some_and(|m| *m == 1)
 }
 
 // Byte v becomes 1; whether it was not.
 pub fn mark(marks: &mut [u8], v: usize) -> bool
     ensures { Marking (set marks.old v 1) marks.old marks.new result }
 {
-    if v < marks.len() {
-        if marks[v] != 1 {
+    match marks.get(v) {
+        Some(m) if *m != 1 => {
             marks[v] = 1;
-            return true;
+            true
         }
+        _ => false,
     }
-    false
 }
 
 // Question 42: the numbers ascend strictly, from 1 to `high`.
@@ -39,14 +35,9 @@ pub fn ascends_within(set: &[u16], high: usize) -> bool
     ensures { result ≡ ascends 0 high set.now }
 {
     let mut low = 0;
-    let mut i = 0;
-    while i < set.len() {
-        let v = words::wide(set[i]);
-        i += 1;
-        if v <= low {
-            return false;
-        }
-        if high < v {
+    for x in set {
+        let v = usize::from(*x);
+        if (v <= low) | (high < v) {
             return false;
         }
         low = v;
@@ -58,10 +49,8 @@ pub fn ascends_within(set: &[u16], high: usize) -> bool
 pub fn mark_all(set: &[u16], marks: &mut [u8])
     ensures { marks.new ≡ mark_all set.now marks.old }
 {
-    let mut i = 0;
-    while i < set.len() {
-        mark(marks, words::wide(set[i]));
-        i += 1;
+    for v in set {
+        mark(marks, usize::from(*v));
     }
 }
 
@@ -70,10 +59,8 @@ pub fn marks_of(literals: &[i32]) -> [u8; ENTRIES]
     ensures { Marks result (map variable literals.now) }
 {
     let mut found = [0u8; ENTRIES];
-    let mut i = 0;
-    while i < literals.len() {
-        mark(&mut found, words::variable_of(literals[i]));
-        i += 1;
+    for x in literals {
+        mark(&mut found, words::variable_of(*x));
     }
     found
 }
@@ -84,10 +71,8 @@ pub fn marks_to(last: usize) -> [u8; ENTRIES]
     ensures { Marks result (up_to last) }
 {
     let mut found = [0u8; ENTRIES];
-    let mut left = last;
-    while 0 < left {
-        mark(&mut found, left);
-        left -= 1;
+    for v in 1..last + 1 {
+        mark(&mut found, v);
     }
     found
 }
@@ -96,15 +81,9 @@ pub fn marks_to(last: usize) -> [u8; ENTRIES]
 pub fn all_marked(literals: &[i32], found: &[u8]) -> bool
     ensures { result ≡ all (λ x. marked found.now (variable x)) literals.now }
 {
-    let mut i = 0;
-    while i < literals.len() {
-        if is_marked(found, words::variable_of(literals[i])) {
-            i += 1;
-        } else {
-            return false;
-        }
-    }
-    true
+    literals
+        .iter()
+        .all(|x| is_marked(found, words::variable_of(*x)))
 }
 
 // The number is in both, or in neither.
@@ -114,15 +93,14 @@ fn agrees_at(a: &[u8], b: &[u8], v: usize) -> bool
     is_marked(a, v) == is_marked(b, v)
 }
 
-// Two lists of marks have the same numbers. All of them are looked at, many at a time: without an early end the loop has no branch.
+// Two lists of marks have the same numbers. All of them are looked at, many at a time: without an early end the loop
+// has no branch.
 pub fn is_same_set(a: &[u8; ENTRIES], b: &[u8; ENTRIES]) -> bool
     ensures { result ≡ same_marks entries a.now b.now }
 {
     let mut same = true;
-    let mut left = ENTRIES;
-    while 0 < left {
-        left -= 1;
-        same = same & agrees_at(a, b, left);
+    for v in 0..ENTRIES {
+        same = agrees_at(a, b, v) & same;
     }
     same
 }

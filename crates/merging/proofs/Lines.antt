@@ -22,6 +22,7 @@ use Rattle.derivation.proofs.Questions.{pos-positive}
 use Rattle.derivation.proofs.Outcomes.{is_beyond, step-asks}
 use Rattle.merging.specs.Merge.{renamed, fits, all_fit}
 use Rattle.merging.proofs.Propagates.{renamed-variable}
+use Rattle.drupe.specs.declared.ProofFault.TheVariants.{Malformed, OutOfRange, WrongSigns, RepeatedVariable}
 
 -- Questions that are passed
 
@@ -37,7 +38,7 @@ line-passes N P w c zs nz s t u =
     ∙ go (has (pos 0) zs) (is_beyond zs) (signed (signs_of c) zs) (distinct zs) ((not-decides (has-decides (pos 0) zs)).from nz) s t u
   where
     go : (a b d e : Bool) → T (not a) → T (not b) → T d → T e
-        → cond a (refused 22) (cond b (refused 23) (cond d (cond e (by_letter N P w c zs) (refused 25)) (refused 24))) ≡ by_letter N P w c zs
+        → cond a (refused Malformed) (cond b (refused OutOfRange) (cond d (cond e (by_letter N P w c zs) (refused RepeatedVariable)) (refused WrongSigns))) ≡ by_letter N P w c zs
     go true b d e p q r s = absurd p
     go false true d e p q r s = absurd q
     go false false true true p q r s = refl

@@ -30,6 +30,7 @@ use Rattle.merging.proofs.Relation.{Setting, Follows}
 use Rattle.merging.proofs.Simulation.{Introduces, steps-go}
 use Rattle.merging.proofs.Runs.{Named-well, start-well, Names, none, extends, names-body, along_all, steps-keep}
 use Rattle.merging.proofs.Renaming.{name-cases, name-stays, Kind, shared, stays, given, Kinds, kinds-start, kinds-step, renaming-same}
+use Rattle.drupe.specs.declared.ProofFault.TheVariants.{NoConflict}
 
 -- What the lines of a list introduce
 
@@ -420,7 +421,7 @@ module _ (N : ℕ) (P : List Rule) (small : plain_atoms P ≤ N) (v : ℕ) (atom
       unfolding insert_all
       closes = ap (λ (o : Outcome). elim o [ refused k ↦ refused k | next z ↦ steps N P z [] ]) (taken (refuted w₂.live []) (is_true (refuted-decides w₂.live []) conflict))
         where
-          taken : (b : Bool) → b ≡ true → cond b (next (add w₂ ([] ∷ []))) (refused 33) ≡ next (add w₂ ([] ∷ []))
+          taken : (b : Bool) → b ≡ true → cond b (next (add w₂ ([] ∷ []))) (refused NoConflict) ≡ next (add w₂ ([] ∷ []))
           taken true e = refl
           taken false e = absurd (true≢false (sym e))
 

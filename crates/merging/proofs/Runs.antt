@@ -22,6 +22,7 @@ use Rattle.derivation.specs.Steps.{Outcome, refused, next, is_completion, is_sup
 use Rattle.derivation.proofs.Questions.{known-decides, has_name-decides}
 use Rattle.merging.specs.Merge.{is_body, named_by, named_in, introduced_by, introduced_in}
 use Rattle.derivation.proofs.Outcomes.{Then, if_yes, if_no, if-line, if-citing, if-naming}
+use Rattle.drupe.specs.declared.ProofFault.TheVariants.{Malformed, NoCompletion, NoSupport, NoAtoms, UnnamedBody, NoConflict, NoLoop, NoUnnamedBody}
 
 -- what goes along with the steps, one after another
 abbrev pub along_all : {A : Type 0} → (A → Step → A) → A → List Step → A
@@ -128,15 +129,15 @@ module _ (N : ℕ) (P : List Rule) where
 
     letter-does : (c : Letter) (zs : List ℤ) → ¬ (pos 0 ∈ zs) → T (signed (signs_of c) zs) → Then (Does z (record { letter = c; numbers = zs })) (by_letter N P z c zs)
     letter-does Addition L nz s =
-        if-citing (Does z (record { letter = Addition; numbers = L })) N z L _ (λ _. if_yes (Does z (record { letter = Addition; numbers = L })) (itself (refuted z.live L)) _ 33 (λ c. (refl, refl, none Addition L tt)))
+        if-citing (Does z (record { letter = Addition; numbers = L })) N z L _ (λ _. if_yes (Does z (record { letter = Addition; numbers = L })) (itself (refuted z.live L)) _ NoConflict (λ c. (refl, refl, none Addition L tt)))
     letter-does Body [] nz s = tt
     letter-does Body (pos m ∷ L) nz s =
         if-naming (Does z (record { letter = Body; numbers = pos m ∷ L })) N z (pos m) L _ (λ _ u. if_yes (Does z (record { letter = Body; numbers = pos m ∷ L }))
-        (and-decides (itself (is_body P (ascending L))) (not-decides (itself (has_name z (ascending L))))) _ 28 (λ q. (refl, refl, names-body m L (low m L nz) u q.0 q.1)))
+        (and-decides (itself (is_body P (ascending L))) (not-decides (itself (has_name z (ascending L))))) _ NoUnnamedBody (λ q. (refl, refl, names-body m L (low m L nz) u q.0 q.1)))
     letter-does Body (negsuc m ∷ L) nz s = absurd s
     letter-does Completion [] nz s = tt
     letter-does Completion (n ∷ hs) nz s =
-        if-citing (Does z (record { letter = Completion; numbers = n ∷ hs })) N z (n ∷ hs) _ (λ _. if_yes (Does z (record { letter = Completion; numbers = n ∷ hs })) (itself (is_completion P z n hs)) _ 29 (λ c. (refl, refl, none Completion (n ∷ hs) tt)))
+        if-citing (Does z (record { letter = Completion; numbers = n ∷ hs })) N z (n ∷ hs) _ (λ _. if_yes (Does z (record { letter = Completion; numbers = n ∷ hs })) (itself (is_completion P z n hs)) _ NoCompletion (λ c. (refl, refl, none Completion (n ∷ hs) tt)))
     letter-does Deletion L nz s = if-citing (Does z (record { letter = Deletion; numbers = L })) N z L _ (λ _. (refl, refl, none Deletion L tt))
     letter-does Extension [] nz s = tt
     letter-does Extension (pos m ∷ L) nz s =
@@ -144,15 +145,15 @@ module _ (N : ℕ) (P : List Rule) where
     letter-does Extension (negsuc m ∷ L) nz s = absurd s
     letter-does Loop [] nz s = tt
     letter-does Loop (h ∷ hs) nz s =
-        if-citing (Does z (record { letter = Loop; numbers = h ∷ hs })) N z (h ∷ hs) _ (λ _. if_yes (Does z (record { letter = Loop; numbers = h ∷ hs })) (itself (all_atoms N z (h ∷ hs))) _ 31
-        (λ a. if_yes (Does z (record { letter = Loop; numbers = h ∷ hs })) (itself (is_loop P (h ∷ hs))) _ 56
-        (λ l. if_yes (Does z (record { letter = Loop; numbers = h ∷ hs })) (itself (all_named P z (h ∷ hs))) _ 32 (λ e. (refl, refl, none Loop (h ∷ hs) tt)))))
+        if-citing (Does z (record { letter = Loop; numbers = h ∷ hs })) N z (h ∷ hs) _ (λ _. if_yes (Does z (record { letter = Loop; numbers = h ∷ hs })) (itself (all_atoms N z (h ∷ hs))) _ NoAtoms
+        (λ a. if_yes (Does z (record { letter = Loop; numbers = h ∷ hs })) (itself (is_loop P (h ∷ hs))) _ NoLoop
+        (λ l. if_yes (Does z (record { letter = Loop; numbers = h ∷ hs })) (itself (all_named P z (h ∷ hs))) _ UnnamedBody (λ e. (refl, refl, none Loop (h ∷ hs) tt)))))
     letter-does Support [] nz s = tt
     letter-does Support (h ∷ ns) nz s =
-        if-citing (Does z (record { letter = Support; numbers = h ∷ ns })) N z (h ∷ ns) _ (λ _. if_yes (Does z (record { letter = Support; numbers = h ∷ ns })) (itself (is_support N P z h ns)) _ 30 (λ c. (refl, refl, none Support (h ∷ ns) tt)))
+        if-citing (Does z (record { letter = Support; numbers = h ∷ ns })) N z (h ∷ ns) _ (λ _. if_yes (Does z (record { letter = Support; numbers = h ∷ ns })) (itself (is_support N P z h ns)) _ NoSupport (λ c. (refl, refl, none Support (h ∷ ns) tt)))
 
     pub step-does : (t : Step) → Then (Does z t) (step N P z t)
-    step-does t = if_no (Does z t) (has-decides (pos 0) t.numbers) _ 22 (λ nz. if-line (Does z t) t.letter t.numbers _ (λ _ s u. letter-does t.letter t.numbers nz s))
+    step-does t = if_no (Does z t) (has-decides (pos 0) t.numbers) _ Malformed (λ nz. if-line (Does z t) t.letter t.numbers _ (λ _ s u. letter-does t.letter t.numbers nz s))
 
   -- All steps, for a property of the two lists of names and of whatever else goes along with the steps
   module _ {A : Type 0} (along : A → Step → A) (Keeps : List ℕ → List Named → A → Type 0)

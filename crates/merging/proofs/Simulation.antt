@@ -31,6 +31,7 @@ use Rattle.merging.specs.Merge as Merge
 use Rattle.merging.proofs.Propagates.{Covered, conflict-follows, renamed-complement, renamed-variable}
 use Rattle.merging.proofs.Lines.{cond_cases, line-passes, signed-renamed, renamed-nonzero, distinct-renamed, steps-append, fit_append}
 use Rattle.merging.proofs.Relation.{demanding-atoms, loop-same, Defines, Within, definition-defines, covered_same, Setting, Bodies, Follows, bodies-more, half-adds, both-add, both-define, half-defines}
+use Rattle.drupe.specs.declared.ProofFault.TheVariants.{Malformed, WrongSigns, UnknownVariable, KnownName, NoUnnamedBody, NoCompletion, NoSupport, NoAtoms, UnnamedBody, NoConflict, NoLoop}
 
 -- Booleans
 
@@ -115,12 +116,12 @@ module _ (N : ℕ) (P : List Rule) (small : plain_atoms P ≤ N) (x : ℤ) (f : 
         (w', ap (λ (o : Outcome). elim o [ refused k ↦ refused k | next z' ↦ steps N P z' [] ]) q, G)
 
     citing-passes : (L : List ℤ) (o : Outcome) → AllKnown N w L → citing N w L o ≡ o
-    citing-passes L o a = first (all_known N w L) o (refused 26) (is_true (all_known-decides N w L) a)
+    citing-passes L o a = first (all_known N w L) o (refused UnknownVariable) (is_true (all_known-decides N w L) a)
 
     naming-passes : (n : ℤ) (L : List ℤ) (o : Outcome) → AllKnown N w L → ¬ T (is_known N w (variable n)) → naming N w n L o ≡ o
     naming-passes n L o a u =
-        first (all_known N w L) _ (refused 26) (is_true (all_known-decides N w L) a)
-        ∙ second (is_known N w (variable n)) (refused 27) o (failed (is_known N w (variable n)) ((not-decides (itself (is_known N w (variable n)))).from u))
+        first (all_known N w L) _ (refused UnknownVariable) (is_true (all_known-decides N w L) a)
+        ∙ second (is_known N w (variable n)) (refused KnownName) o (failed (is_known N w (variable n)) ((not-decides (itself (is_known N w (variable n)))).from u))
 
     -- Additions
 
@@ -142,7 +143,7 @@ module _ (N : ℕ) (P : List Rule) (small : plain_atoms P ≤ N) (x : ℤ) (f : 
             → Goes z' (one Addition K)
         with-literal K there here from once =
             one-goes z' (add w (ascending K ∷ [])) Addition K nonzero (unsigned K) once
-            (citing-passes K _ known ∙ first (refuted w.live K) _ (refused 33) (is_true (refuted-decides w.live K) conflict))
+            (citing-passes K _ known ∙ first (refuted w.live K) _ (refused NoConflict) (is_true (refuted-decides w.live K) conflict))
             (both-add P x f base names F (ascending L) (ascending K) (λ k u. elim (from k (ascending→ K u)) [ inl e ↦ inl e | inr v ↦ inr (sorted k v) ]))
           where
             x-nonzero : x ≢ pos 0
@@ -307,7 +308,7 @@ module _ (N : ℕ) (P : List Rule) (small : plain_atoms P ≤ N) (x : ℤ) (f : 
             signs = signed-renamed f S.positive-stays Body (pos m ∷ L) s
 
             named_here : T (is_body P (ascending L)) → Steps.body P w (pos (f m)) (map (renamed f) L) ≡ next (define w (pos (f m)) (map (renamed f) L) (record { name = f m; body = ascending (map (renamed f) L) } ∷ w.named))
-            named_here u = first (is_unnamed_body P w (map (renamed f) L)) _ (refused 28) ((passed _).to (subst (λ (l : List ℤ). T (is_unnamed_body P w l)) (sym same-list) there))
+            named_here u = first (is_unnamed_body P w (map (renamed f) L)) _ (refused NoUnnamedBody) ((passed _).to (subst (λ (l : List ℤ). T (is_unnamed_body P w l)) (sym same-list) there))
               where
                 there : T (is_unnamed_body P w L)
                 there = (and-decides (itself (is_body P (ascending L))) (not-decides (has_name-decides w (ascending L)))).from (u, λ q. nobody j q.0 q.1 q.2)
@@ -364,7 +365,7 @@ module _ (N : ℕ) (P : List Rule) (small : plain_atoms P ≤ N) (x : ℤ) (f : 
         stays : Completes P z n hs → Goes (add z (ascending (n ∷ map complement hs) ∷ [])) (one Completion (map (renamed f) (n ∷ hs)))
         stays (q, m, (k, (e, i))) =
             citing-goes Completion (n ∷ hs) (ascending (n ∷ map complement hs)) (ascending (renamed f n ∷ map complement (map (renamed f) hs))) nz s t a
-            (ap (citing N w (map (renamed f) (n ∷ hs))) (first (is_completion P w (renamed f n) (map (renamed f) hs)) _ (refused 29)
+            (ap (citing N w (map (renamed f) (n ∷ hs))) (first (is_completion P w (renamed f n) (map (renamed f) hs)) _ (refused NoCompletion)
             (is_true (completion-decides P w (renamed f n) (map (renamed f) hs)) (q, m, (k, (e ∙ sym same-heads, name-follows n q m i))))))
             (complements-from n hs)
           where
@@ -394,7 +395,7 @@ module _ (N : ℕ) (P : List Rule) (small : plain_atoms P ≤ N) (x : ℤ) (f : 
         → Goes (add z (ascending (h ∷ map complement ns) ∷ [])) (kept P x f shared z.named Support (h ∷ ns))
     support-goes h ns nz s t a at each-rule each-name =
         citing-goes Support (h ∷ ns) (ascending (h ∷ map complement ns)) (ascending (renamed f h ∷ map complement (map (renamed f) ns))) nz s t a
-        (ap (citing N w (map (renamed f) (h ∷ ns))) (first (is_support N P w (renamed f h) (map (renamed f) ns)) _ (refused 30) ((passed _).to (subst (λ (k : ℤ). T (is_support N P w k (map (renamed f) ns))) (sym same_head) supports))))
+        (ap (citing N w (map (renamed f) (h ∷ ns))) (first (is_support N P w (renamed f h) (map (renamed f) ns)) _ (refused NoSupport) ((passed _).to (subst (λ (k : ℤ). T (is_support N P w k (map (renamed f) ns))) (sym same_head) supports))))
         (complements-from h ns)
       where
         same_head : renamed f h ≡ h
@@ -461,7 +462,7 @@ module _ (N : ℕ) (P : List Rule) (small : plain_atoms P ≤ N) (x : ℤ) (f : 
         same_set = map-atoms (h ∷ hs) atoms
 
         looped : List ℤ → Outcome
-        looped [] = refused 24
+        looped [] = refused WrongSigns
         looped (h ∷ hs) = Steps.loop N P w h hs
 
         added : Outcome
@@ -469,9 +470,9 @@ module _ (N : ℕ) (P : List Rule) (small : plain_atoms P ≤ N) (x : ℤ) (f : 
 
         here : Steps.loop N P w h hs ≡ next (add w (ascending (h ∷ map (λ n. neg_ℤ (pos n)) (external_names P w (h ∷ hs))) ∷ []))
         here =
-            first (all_atoms N w (h ∷ hs)) _ (refused 31) (is_true (all-decides (λ y. itself (is_atom N (variable y))) (h ∷ hs)) atoms)
-            ∙ (first (is_loop P (h ∷ hs)) _ (refused 56) (sym (loop-same P x (h ∷ hs)) ∙ (passed _).to l)
-            ∙ first (all_named P w (h ∷ hs)) _ (refused 32) (is_true (all-decides (λ q. if-decides (itself (is_external (h ∷ hs) q)) (itself (has_name w q.body))) P) names-there))
+            first (all_atoms N w (h ∷ hs)) _ (refused NoAtoms) (is_true (all-decides (λ y. itself (is_atom N (variable y))) (h ∷ hs)) atoms)
+            ∙ (first (is_loop P (h ∷ hs)) _ (refused NoLoop) (sym (loop-same P x (h ∷ hs)) ∙ (passed _).to l)
+            ∙ first (all_named P w (h ∷ hs)) _ (refused UnnamedBody) (is_true (all-decides (λ q. if-decides (itself (is_external (h ∷ hs) q)) (itself (has_name w q.body))) P) names-there))
           where
             names-there : (q : Rule) → q ∈ P → T (is_external (h ∷ hs) q) → T (has_name w q.body)
             names-there q m e =
@@ -485,11 +486,11 @@ module _ (N : ℕ) (P : List Rule) (small : plain_atoms P ≤ N) (x : ℤ) (f : 
 
     letter-goes : (c : Letter) (zs : List ℤ) → ¬ (pos 0 ∈ zs) → T (signed (signs_of c) zs) → T (distinct zs) → Introduces c zs → Then (Result c zs) (by_letter N (demanding P x) z c zs)
     letter-goes Addition L nz s t i =
-        if-citing (Result Addition L) N z L _ (λ a. if_yes (Result Addition L) (refuted-decides z.live L) _ 33 (λ c. (refl, addition-goes L nz t a c)))
+        if-citing (Result Addition L) N z L _ (λ a. if_yes (Result Addition L) (refuted-decides z.live L) _ NoConflict (λ c. (refl, addition-goes L nz t a c)))
     letter-goes Body [] nz s t i = tt
     letter-goes Body (pos m ∷ L) nz s t i =
         if-naming (Result Body (pos m ∷ L)) N z (pos m) L _
-        (λ a u. if_yes (Result Body (pos m ∷ L)) (and-decides (any-decides (λ q. same_list-decides q.body (ascending L)) (demanding P x)) (not-decides (itself (has_name z (ascending L))))) _ 28
+        (λ a u. if_yes (Result Body (pos m ∷ L)) (and-decides (any-decides (λ q. same_list-decides q.body (ascending L)) (demanding P x)) (not-decides (itself (has_name z (ascending L))))) _ NoUnnamedBody
         (λ q. (refl, body-goes m L i.0 nz t a u (atoms q.0) q.1 s i.1)))
       where
         atoms : (q : Rule) × (q ∈ demanding P x) × (q.body ≡ ascending L) → AllAtoms N L
@@ -497,7 +498,7 @@ module _ (N : ℕ) (P : List Rule) (small : plain_atoms P ≤ N) (x : ℤ) (f : 
     letter-goes Body (negsuc m ∷ L) nz s t i = absurd ((and-decides (itself (is_positive (negsuc m))) (itself true)).to s).0
     letter-goes Completion [] nz s t i = tt
     letter-goes Completion (n ∷ hs) nz s t i =
-        if-citing (Result Completion (n ∷ hs)) N z (n ∷ hs) _ (λ a. if_yes (Result Completion (n ∷ hs)) (completion-decides (demanding P x) z n hs) _ 29
+        if-citing (Result Completion (n ∷ hs)) N z (n ∷ hs) _ (λ a. if_yes (Result Completion (n ∷ hs)) (completion-decides (demanding P x) z n hs) _ NoCompletion
         (λ c. (refl, completion-goes n hs nz s t ((and-decides (itself (is_positive n)) (itself (all is_positive hs))).to s).0 a c)))
     letter-goes Deletion L nz s t i = if-citing (Result Deletion L) N z L _ (λ a. (refl, deletion-goes _ (λ h m. drop_first→ _ z.live m)))
     letter-goes Extension [] nz s t i = tt
@@ -506,21 +507,21 @@ module _ (N : ℕ) (P : List Rule) (small : plain_atoms P ≤ N) (x : ℤ) (f : 
     letter-goes Extension (negsuc m ∷ L) nz s t i = absurd ((and-decides (itself (is_positive (negsuc m))) (itself true)).to s).0
     letter-goes Loop [] nz s t i = tt
     letter-goes Loop (h ∷ hs) nz s t i =
-        if-citing (Result Loop (h ∷ hs)) N z (h ∷ hs) _ (λ a. if_yes (Result Loop (h ∷ hs)) (all-decides (λ y. itself (is_atom N (variable y))) (h ∷ hs)) _ 31
-        (λ b. if_yes (Result Loop (h ∷ hs)) (itself (is_loop (demanding P x) (h ∷ hs))) _ 56
-        (λ l. if_yes (Result Loop (h ∷ hs)) (all-decides (λ q. if-decides (itself (is_external (h ∷ hs) q)) (itself (has_name z q.body))) (demanding P x)) _ 32
+        if-citing (Result Loop (h ∷ hs)) N z (h ∷ hs) _ (λ a. if_yes (Result Loop (h ∷ hs)) (all-decides (λ y. itself (is_atom N (variable y))) (h ∷ hs)) _ NoAtoms
+        (λ b. if_yes (Result Loop (h ∷ hs)) (itself (is_loop (demanding P x) (h ∷ hs))) _ NoLoop
+        (λ l. if_yes (Result Loop (h ∷ hs)) (all-decides (λ q. if-decides (itself (is_external (h ∷ hs) q)) (itself (has_name z q.body))) (demanding P x)) _ UnnamedBody
         (λ e. (refl, loop-goes h hs nz s t a b l e)))))
     letter-goes Support [] nz s t i = tt
     letter-goes Support (h ∷ ns) nz s t i =
         if-citing (Result Support (h ∷ ns)) N z (h ∷ ns) _ (λ a. if_yes (Result Support (h ∷ ns))
         (and-decides (itself (is_atom N (variable h)))
         (and-decides (all-decides (λ q. if-decides (has-decides h q.heads) (any-decides (λ n. itself (is_name z (variable n) q.body)) ns)) (demanding P x))
-        (all-decides (λ n. any-decides (λ q. and-decides (has-decides h q.heads) (itself (is_name z (variable n) q.body))) (demanding P x)) ns))) _ 30
+        (all-decides (λ n. any-decides (λ q. and-decides (has-decides h q.heads) (itself (is_name z (variable n) q.body))) (demanding P x)) ns))) _ NoSupport
         (λ q. (refl, support-goes h ns nz s t a q.0 q.1.0 q.1.1)))
 
     step-goes : (t : Step) → Introduces t.letter t.numbers → Then (Result t.letter t.numbers) (step N (demanding P x) z t)
     step-goes t i =
-        if_no (Result t.letter t.numbers) (has-decides (pos 0) t.numbers) _ 22
+        if_no (Result t.letter t.numbers) (has-decides (pos 0) t.numbers) _ Malformed
         (λ nz. if-line (Result t.letter t.numbers) t.letter t.numbers _ (λ _ s u. letter-goes t.letter t.numbers nz s u i))
 
   -- All steps

@@ -13,6 +13,7 @@ use Rattle.derivation.specs.Steps.{Outcome, refused, next, step, steps}
 use Rattle.merging.specs.Merge.{demanding, merged}
 use Rattle.merging.specs.Claims.{Accepted, steps_in, AcceptedIn, MergedIn}
 use Rattle.merging.proofs.Merged.{merged-accepted}
+use Rattle.drupe.specs.declared.ProofFault.TheVariants.{StoreFull}
 
 module _ (room : State → Bool) (N : ℕ) (P : List Rule) where
   -- what is accepted with the store is accepted without it
@@ -20,28 +21,28 @@ module _ (room : State → Bool) (N : ℕ) (P : List Rule) where
   without [] z w e = e
   without (t ∷ ts) z w e = go (step N P z t) e (λ v d. without ts v w d)
     where
-      go : (o : Outcome) → elim o [ refused k ↦ refused k | next v ↦ cond (room v) (steps_in room N P v ts) (refused 34) ] ≡ next w
+      go : (o : Outcome) → elim o [ refused k ↦ refused k | next v ↦ cond (room v) (steps_in room N P v ts) (refused StoreFull) ] ≡ next w
           → ((v : State) → steps_in room N P v ts ≡ next w → steps N P v ts ≡ next w) → elim o [ refused k ↦ refused k | next v ↦ steps N P v ts ] ≡ next w
       go (refused k) d below = d
       go (next v) d below = fit (room v) d
         where
-          fit : (b : Bool) → cond b (steps_in room N P v ts) (refused 34) ≡ next w → steps N P v ts ≡ next w
+          fit : (b : Bool) → cond b (steps_in room N P v ts) (refused StoreFull) ≡ next w → steps N P v ts ≡ next w
           fit true q = below v q
           fit false q = absurd (zero_one (cc))
 
   -- what is accepted without it is accepted with it, or 34
-  within : (ts : List Step) (z w : State) → steps N P z ts ≡ next w → (steps_in room N P z ts ≡ next w) ⊎ (steps_in room N P z ts ≡ refused 34)
+  within : (ts : List Step) (z w : State) → steps N P z ts ≡ next w → (steps_in room N P z ts ≡ next w) ⊎ (steps_in room N P z ts ≡ refused StoreFull)
   within [] z w e = inl e
   within (t ∷ ts) z w e = go (step N P z t) e (λ v d. within ts v w d)
     where
       go : (o : Outcome) → elim o [ refused k ↦ refused k | next v ↦ steps N P v ts ] ≡ next w
-          → ((v : State) → steps N P v ts ≡ next w → (steps_in room N P v ts ≡ next w) ⊎ (steps_in room N P v ts ≡ refused 34))
-          → (elim o [ refused k ↦ refused k | next v ↦ cond (room v) (steps_in room N P v ts) (refused 34) ] ≡ next w)
-          ⊎ (elim o [ refused k ↦ refused k | next v ↦ cond (room v) (steps_in room N P v ts) (refused 34) ] ≡ refused 34)
+          → ((v : State) → steps N P v ts ≡ next w → (steps_in room N P v ts ≡ next w) ⊎ (steps_in room N P v ts ≡ refused StoreFull))
+          → (elim o [ refused k ↦ refused k | next v ↦ cond (room v) (steps_in room N P v ts) (refused StoreFull) ] ≡ next w)
+          ⊎ (elim o [ refused k ↦ refused k | next v ↦ cond (room v) (steps_in room N P v ts) (refused StoreFull) ] ≡ refused StoreFull)
       go (refused k) d below = absurd (zero_one (cc))
       go (next v) d below = fit (room v)
         where
-          fit : (b : Bool) → (cond b (steps_in room N P v ts) (refused 34) ≡ next w) ⊎ (cond b (steps_in room N P v ts) (refused 34) ≡ refused 34)
+          fit : (b : Bool) → (cond b (steps_in room N P v ts) (refused StoreFull) ≡ next w) ⊎ (cond b (steps_in room N P v ts) (refused StoreFull) ≡ refused StoreFull)
           fit true = below v d
           fit false = inr refl
 

@@ -10,6 +10,7 @@ use Rattle.derivation.specs.States.{State, start, is_atom}
 use Rattle.derivation.specs.Steps.{Outcome, refused, next, step, steps, empty_live}
 use Rattle.derivation.specs.Claims.{NoAnswerSet, NoneAsWritten}
 use Rattle.merging.specs.Merge.{demanding, merged, all_fit}
+use Rattle.drupe.specs.declared.ProofFault.TheVariants.{StoreFull}
 
 -- "a proof with verdict "inconsistent" (called accepted from here on)", question 34 aside
 abbrev pub Accepted : ℕ → List Rule → List Step → Type 0
@@ -29,14 +30,14 @@ MergedAccepted =
 abbrev pub steps_in : (State → Bool) → ℕ → List Rule → State → List Step → Outcome
 steps_in room N P z [] = next z
 steps_in room N P z (t ∷ ts) =
-    elim (step N P z t) [ refused k ↦ refused k | next v ↦ cond (room v) (steps_in room N P v ts) (refused 34) ]
+    elim (step N P z t) [ refused k ↦ refused k | next v ↦ cond (room v) (steps_in room N P v ts) (refused StoreFull) ]
 
 abbrev pub AcceptedIn : (State → Bool) → ℕ → List Rule → List Step → Type 0
 AcceptedIn room N P ts = (z : State) × (steps_in room N P start ts ≡ next z) × (empty_live z ≡ true)
 
 -- the steps are accepted with the store, or stopped by 34
 abbrev pub InOr34 : (State → Bool) → ℕ → List Rule → List Step → Type 0
-InOr34 room N P ts = AcceptedIn room N P ts ⊎ (steps_in room N P start ts ≡ refused 34)
+InOr34 room N P ts = AcceptedIn room N P ts ⊎ (steps_in room N P start ts ≡ refused StoreFull)
 
 -- halves that are accepted with the store merge into a proof that is accepted with it or stopped by 34, and by nothing else; either
 -- way the program has no answer set

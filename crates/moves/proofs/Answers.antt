@@ -3,6 +3,7 @@
 use mathlib.Core.Path.{◌≡◌, refl, sym, ◌∙◌, ap, ap₂}
 use mathlib.Core.Bool.{Bool, true, false, ◌&&◌}
 use mathlib.Core.Option.{some}
+use Rattle.std.specs.Prelude.{Option as Answer, Some, None}
 use mathlib.Core.List.{List, [], ◌∷◌}
 use Prim.Native.Nat.{ℕ, ◌+◌, ◌-◌, ◌*◌, ◌<◌, ◌≤◌, max}
 use native.Mathlib.Omega.{arith}
@@ -38,7 +39,6 @@ use Rattle.packets.proofs.Claims.{fits-pair, both-there, short-steps, taken}
 use Rattle.packets.proofs.Moves.{one-two}
 use Rattle.moves.specs.Moves.{Holds, PairTold, Movable, PairWritten, Moved}
 use Rattle.moves.specs.declared.Measured.{Measured}
-use Rattle.moves.specs.declared.Measured.TheVariants.{Taken, Refused}
 
 -- What a version can hold
 
@@ -66,8 +66,11 @@ fewer-within One (r ∷ P) = omega (arith, some_words Two r, fewer-within One P,
 
 -- What is told of a pair
 
+abbrev measured : ℕ → Bool → Answer Measured
+measured n b = Some (record { words = n; fits = b })
+
 -- a packet's parts are refused
-pub not-told : (w : Version) {read : PacketRead} → read ≡ refused 53 → PairTold w read Refused
+pub not-told : (w : Version) {read : PacketRead} → read ≡ refused 53 → PairTold w read None
 not-told w e = rw e (refl, refl)
 
 -- both parts are read, with so many rules and words of the table, the largest variable, and whether no rule has a weight body
@@ -81,9 +84,9 @@ pub record BothRead (v : Version) (count : ℕ) (part : List ℕ) (steps : ℕ) 
   pub top_of : largest ≡ pair_top P ts
   pub plainly : plain ≡ all_plain P
 
-pub both_read : (v : Version) (count : ℕ) (part : List ℕ) (steps : ℕ) (bytes : List ℕ) (table filled : List ℤ) (proof after : List ℕ) {rules size n x y largest : ℕ} {b : Bool} {r : RulesPart} {s : Part}
-    → r ≡ RulesPart.Taken rules size x b → TableTold (rules_in v (numbers_from 4 count part)) table filled r → s ≡ Part.Taken n y → TextTold (steps_in steps bytes) proof after s → largest ≡ max x y
-    → BothRead v count part steps bytes rules size largest b
+pub both_read : (v : Version) (count : ℕ) (part : List ℕ) (steps : ℕ) (bytes : List ℕ) (table filled : List ℤ) (proof after : List ℕ) {r : Answer RulesPart} {s : Answer Part} {x : RulesPart} {y : Part} {largest : ℕ}
+    → r ≡ Some x → TableTold (rules_in v (numbers_from 4 count part)) table filled r → s ≡ Some y → TextTold (steps_in steps bytes) proof after s → largest ≡ max x.top y.top
+    → BothRead v count part steps bytes x.rules x.words largest x.plain
 both_read v count part steps bytes table filled proof after p c q t o =
     let a = table-some (rules_in v (numbers_from 4 count part)) table filled p c in
     let b = text-some (steps_in steps bytes) proof after q t in
@@ -104,7 +107,7 @@ module _ (w : Version) {v : Version} {count : ℕ} {part : List ℕ} {steps : �
   unfolding rules_in
   there = rules-there v most_rules (numbers_from 4 count part) a.P a.rules-read
 
-  pub too_large : limit v < largest → PairTold w (parts_read v count part steps bytes) Refused
+  pub too_large : limit v < largest → PairTold w (parts_read v count part steps bytes) None
   unfolding parts_read
   too_large h = rw (a.rules-read, a.steps-read, there.worded, lt-leb (pair_top a.P a.ts) (limit v) (omega (arith, a.top_of))) (refl, refl)
 
@@ -116,11 +119,11 @@ module _ (w : Version) {v : Version} {count : ℕ} {part : List ℕ} {steps : �
     pub words-room : (less * rules ≤ size) × (size ≤ most_words * most_rules)
     words-room = (omega (arith, fewer-all, fewer-within w a.P, a.words-of), omega (arith, a.words-of, words-few Two a.P there.formed, there.few))
 
-    pub pair-told : {b : Bool} → largest ≤ limit v → Holds w largest plain b → PairTold w (parts_read v count part steps bytes) (Taken (size - less * rules) b)
+    pub pair-told : {b : Bool} → largest ≤ limit v → Holds w largest plain b → PairTold w (parts_read v count part steps bytes) (Some (record { words = size - less * rules; fits = b }))
     unfolding parts_read
     pair-told k f =
         rw (a.rules-read, a.steps-read, there.worded, le-leb (pair_top a.P a.ts) (limit v) (omega (arith, a.top_of)))
-        (size - less * rules, (ap (Taken (size - less * rules)) (f a.P a.ts a.top_of a.plainly), λ g. omega (arith, fewer-all, a.words-of, more-words w a.P (and_left _ _ g))))
+        (size - less * rules, (ap (measured (size - less * rules)) (f a.P a.ts a.top_of a.plainly), λ g. omega (arith, fewer-all, a.words-of, more-words w a.P (and_left _ _ g))))
 
 -- What is answered
 
@@ -134,7 +137,7 @@ pub moved-kept : (w : Version) (read : PacketRead) {output output₁ after : Lis
     → Moved w read output₁ after r → Moved w read output after r
 moved-kept w read p m = record { answer = rw p at m.answer; bytes = rw p at m.bytes }
 
-pub told-refused : (w : Version) (read : PacketRead) {r : Measured} → r ≡ Refused → PairTold w read r → read ≡ refused 53
+pub told-refused : (w : Version) (read : PacketRead) {r : Answer Measured} → r ≡ None → PairTold w read r → read ≡ refused 53
 told-refused w (refused k) e t = ap refused t.0
 told-refused w (pair P ts) e t = absurd (zero_one (let q = sym e ∙ t.1.0 in cc))
 
@@ -146,12 +149,12 @@ pub record PairTaken (w : Version) (read : PacketRead) (n : ℕ) (b : Bool) : Ty
   pub fitting : b ≡ fits w P ts
   pub words : b ≡ true → n ≡ length (packet_words w P)
 
-pub told-taken : (w : Version) (read : PacketRead) {r : Measured} {n : ℕ} {b : Bool} → r ≡ Taken n b → PairTold w read r → PairTaken w read n b
+pub told-taken : (w : Version) (read : PacketRead) {r : Answer Measured} {x : Measured} → r ≡ Some x → PairTold w read r → PairTaken w read x.words x.fits
 told-taken w (refused k) e t = absurd (zero_one (let q = sym e ∙ t.1 in cc))
-told-taken w (pair P ts) {n = n} {b} e t =
+told-taken w (pair P ts) {x = x} e t =
     let q = sym e ∙ t.1.0 in
-    let m : n ≡ t.0 = cc in
-    let f : b ≡ fits w P ts = cc in
+    let m : x.words ≡ t.0 = cc in
+    let f : x.fits ≡ fits w P ts = cc in
     record { P = P; ts = ts; is = refl; fitting = f; words = λ g. m ∙ t.1.1 (sym f ∙ g) }
 
 -- the other version cannot hold it

@@ -1,6 +1,6 @@
 -- What the private functions of moves come to; no reader of a public contract needs it.
 -- Assumes nothing.
-use Rattle.std.specs.Prelude.{◌≡◌, Bool, true, List, ◌++◌, ℕ, ◌+◌, ◌≤◌, ℤ, length}
+use Rattle.std.specs.Prelude.{◌≡◌, Bool, true, List, ◌++◌, ℕ, ◌+◌, ◌≤◌, ℤ, length, Option as Answer, Some, None}
 use Rattle.std.proofs.Math.Option.{some}
 use Rattle.std.proofs.lemmas.List.Edits.{sets}
 use Rattle.words.specs.Lists.{all}
@@ -14,7 +14,6 @@ use Rattle.packets.specs.Writes.{rule_room, last_rule_end}
 use Rattle.packets.specs.declared.Version.{Version}
 use Rattle.packets.specs.declared.PacketWriting.{PacketWriting}
 use Rattle.moves.specs.declared.Measured.{Measured}
-use Rattle.moves.specs.declared.Measured.TheVariants.{Taken, Refused}
 use Rattle.moves.specs.declared.RuleMoved.{RuleMoved}
 
 -- whether the version can hold a pair, by its largest variable and whether none of its rules has a weight body
@@ -22,9 +21,9 @@ abbrev pub Holds : Version → ℕ → Bool → Bool → Type 0
 Holds v largest plain r = (P : List InputRule) (ts : List Step) → largest ≡ pair_top P ts → plain ≡ all_plain P → r ≡ fits v P ts
 
 -- whether the version can hold the pair that was read, and how many words its rules then take; or that it is refused, with 53
-abbrev pub PairTold : Version → PacketRead → Measured → Type 0
-PairTold v (refused k) r = (k ≡ 53) × (r ≡ Refused)
-PairTold v (pair P ts) r = (n : ℕ) × ((r ≡ Taken n (fits v P ts)) × (fits v P ts ≡ true → n ≡ length (packet_words v P)))
+abbrev pub PairTold : Version → PacketRead → Answer Measured → Type 0
+PairTold v (refused k) r = (k ≡ 53) × (r ≡ None)
+PairTold v (pair P ts) r = (n : ℕ) × ((r ≡ Some (record { words = n; fits = fits v P ts })) × (fits v P ts ≡ true → n ≡ length (packet_words v P)))
 
 -- From here on v is the version of the packet and w that of the packet made.
 

@@ -12,15 +12,14 @@ ghost use Rattle.packets.specs.Writes.{rule_room, last_rule_end};
 ghost use Rattle.moves.specs.Moves.{Holds, PairTold, RuleMovedAs, Movable, RulesMoved, PairWritten, Moved};
 
 use aspif::tables::LONGEST_RULE;
-use packets::reader::{Part, RulesPart};
 use packets::{HEADER, PacketWriting, Version, reader, versions, writer};
 use text::writing;
 
-// How many words the rules of a pair take in the version that it moves to, and whether that version can hold it; or that it is refused.
+// How many words the rules of a pair take in the version that it moves to, and whether that version can hold it.
 #[derive(Drop)]
-enum Measured {
-    Taken { words: usize, fits: bool },
-    Refused,
+struct Measured {
+    words: usize,
+    fits: bool,
 }
 
 // How many words a rule took, and the position after the bytes that it has now.
@@ -41,7 +40,7 @@ fn can_hold(version: Version, top: usize, plain: bool) -> bool
     }
 }
 
-// Both parts of a packet whose lengths fit, asked and measured; nothing of them is kept.
+// Both parts of a packet whose lengths fit, asked and measured; nothing of them is kept. `None` where they are refused.
 fn measure(
     from: Version,
     to: Version,
@@ -49,39 +48,23 @@ fn measure(
     count: usize,
     bytes: &[u8],
     steps: usize,
-) -> Measured
+) -> Option<Measured>
     requires { (4 * count ≤ length words.now) × (fills steps bytes.now ≡ true) }
     ensures { PairTold to (parts_read from count words.now steps bytes.now) result }
 {
     let classes = text::classes::CLASSES;
     let mut table = [0; 1];
     let mut proof = [0; 1];
-    let text = reader::read_steps(bytes, steps, &mut proof, &classes);
-    let rules = reader::read_rules(from, words, count, &mut table);
-    match rules {
-        RulesPart::Refused => Measured::Refused,
-        RulesPart::Taken {
-            rules,
-            words: size,
-            top: atoms,
-            plain,
-        } => match text {
-            Part::Refused => Measured::Refused,
-            Part::Taken {
-                count: _,
-                top: largest,
-            } => {
-                let top = words::larger(atoms, largest);
-                if versions::limit_of(from) < top {
-                    return Measured::Refused;
-                }
-                Measured::Taken {
-                    words: size - versions::fewer_in(to) * rules,
-                    fits: can_hold(to, top, plain),
-                }
-            }
-        },
+    let text = reader::read_steps(bytes, steps, &mut proof, &classes)?;
+    let rules = reader::read_rules(from, words, count, &mut table)?;
+    let top = words::larger(rules.top, text.top);
+    if versions::limit_of(from) < top {
+        return None;
     }
+    Some(Measured {
+        words: rules.words - versions::fewer_in(to) * rules.rules,
+        fits: can_hold(to, top, rules.plain),
+    })
 }
 
 // The rule at the front of so many words goes to the output from `at` on, with the words of the other version.
@@ -159,28 +142,26 @@ fn move_parts(
     ensures { Moved to (parts_read from count words.now steps bytes.now) output.old
         output.new result }
 {
-    let measured = measure(from, to, words, count, bytes, steps);
-    match measured {
-        Measured::Refused => PacketWriting::Refused(53),
-        Measured::Taken { words: used, fits } => {
-            if !fits {
-                return PacketWriting::Refused(61);
-            }
-            let size = HEADER + 4 * used + bytes.len();
-            if output.len() < size {
-                return PacketWriting::Refused(52);
-            }
-            write_pair(from, to, words, count, bytes, steps, used, output);
-            PacketWriting::Written(size)
-        }
+    let Some(measured) = measure(from, to, words, count, bytes, steps) else {
+        return PacketWriting::Refused(53);
+    };
+    let Measured { words: used, fits } = measured;
+    if !fits {
+        return PacketWriting::Refused(61);
     }
+    let size = HEADER + 4 * used + bytes.len();
+    if output.len() < size {
+        return PacketWriting::Refused(52);
+    }
+    write_pair(from, to, words, count, bytes, steps, used, output);
+    PacketWriting::Written(size)
 }
 
 // A packet of one version becomes the packet of another that holds the same pair.
 fn move_packet(from: Version, to: Version, packet: &[u8], output: &mut [u8]) -> PacketWriting
     ensures { Moved to (pair_in from packet.now) output.old output.new result }
 {
-    words::zero_bytes(output);
+    words::zero_all(output);
     if !versions::is_marked(from, packet) {
         return PacketWriting::Refused(51);
     }

@@ -26,7 +26,7 @@ use Rattle.names.specs.ByName.{Called, Told}
 use Rattle.names.specs.Minimal.{AlsoMarks}
 use Rattle.names.specs.Queries.{entry, is_inside, asks_heads, asks, asked_names, MarksNames, completing}
 use Rattle.names.specs.declared.queries.Query.{Query}
-use Rattle.names.specs.declared.by_name.Recorded.{Recorded}
+use Rattle.std.specs.Prelude.{Option, Some, None}
 
 -- One rule more
 
@@ -154,21 +154,21 @@ one_of {B} {l} e = let m = if-true (any-decides (λ L. same_list-decides B L) l)
 
 -- What is recorded of the body with a name
 
-pub told-few : (m row : List ℤ) (name : ℕ) {n : ℕ} {r : Recorded} → r ≡ Recorded.Body n → Told m name row r → n ≤ most_weighted
-told-few m row name {n} e t = let told : Told m name row (Recorded.Body n) = rw e at t in told.0
+pub told-few : (m row : List ℤ) (name : ℕ) {n : ℕ} {r : Option ℕ} → r ≡ Some n → Told m name row r → n ≤ most_weighted
+told-few m row name {n} e t = let told : Told m name row (Some n) = rw e at t in told.0
 
 -- and whether a weight rule has that body
 module _ {ws m : List ℤ} {name : ℕ} {called : List ℤ → ℕ} (w : Weighing ws) (C : Called m called) (above : 1 ≤ name) where
-  pub named-body : (row : List ℤ) {r : Recorded} {n : ℕ} → r ≡ Recorded.Body n → Told m name row r
+  pub named-body : (row : List ℤ) {r : Option ℕ} {n : ℕ} → r ≡ Some n → Told m name row r
       → (let bs = bodies (bound_at ws) (paired (body_words_at ws)) in any (λ ls. eqb (called ls) name) bs ≡ any (same_list (take n row)) bs)
   named-body row {n = n} e t =
-      let told : Told m name row (Recorded.Body n) = rw e at t in
+      let told : Told m name row (Some n) = rw e at t in
       any_same _ _ (bodies (bound_at ws) (paired (body_words_at ws))) (λ L i. told.1 called C above L (body-short L w i))
 
-  pub named_none : (row : List ℤ) {r : Recorded} → r ≡ Recorded.Nothing → Told m name row r
+  pub named_none : (row : List ℤ) {r : Option ℕ} → r ≡ None → Told m name row r
       → any (λ ls. eqb (called ls) name) (bodies (bound_at ws) (paired (body_words_at ws))) ≡ false
   named_none row e t =
-      let told : Told m name row Recorded.Nothing = rw e at t in
+      let told : Told m name row None = rw e at t in
       none_pass _ (bodies (bound_at ws) (paired (body_words_at ws))) (λ L i. told called C above L (body-short L w i))
 
 -- Question 28: a name that is 0 is that of a body which some rule has

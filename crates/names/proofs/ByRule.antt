@@ -3,7 +3,7 @@
 use mathlib.Core.Path.{◌≡◌, refl, sym, ap, ◌∙◌}
 use mathlib.Core.Bool.{Bool, true, false, not, true≢false}
 use mathlib.Core.List.{List, [], ◌∷◌, ◌++◌, map, append_assoc, append-nil, nil≢cons, head-eq_of_cons-eq, tail-eq_of_cons-eq}
-use Prim.Native.Nat.{ℕ, ◌+◌, ◌-◌, ◌≤◌, ◌<◌}
+use Prim.Native.Nat.{ℕ, ◌+◌, ◌<◌}
 use native.Mathlib.Nat.{add-zero}
 use native.Mathlib.Numerals.{add-one}
 use native.Mathlib.Omega.{arith}
@@ -13,9 +13,9 @@ use lib.Seq.{get_or-drop, drop-drop, take-suc-set, drop-set-lt}
 use Rattle.words.specs.Lists.{any}
 use Rattle.words.proofs.Lists.{and_left, and_right}
 use Rattle.aspif.specs.Rules.{Rule, InputRule, is_plain, all_plain, expand_rule, expand}
-use Rattle.aspif.specs.Tables.{is_weighted, size_at, body_at, rule_at, rules_at, sound_rules, sound_at, shape_sound}
+use Rattle.aspif.specs.Tables.{is_weighted, body_at, rule_at, rules_at, starts_at}
 use Rattle.aspif.proofs.Readable.{rules-count}
-use Rattle.aspif.proofs.Cursors.{plain_at, Cursor, at-rule, no-rules}
+use Rattle.aspif.proofs.Cursors.{plain_at, starts-length, rules_from_starts}
 use Rattle.names.specs.Queries.{entry}
 use Rattle.names.proofs.Asked.{any-more}
 
@@ -31,96 +31,84 @@ by-rule-on called r ws k ns e = rw (get_or-drop k ns 0 0, add-zero k, drop-drop 
     first [] p = absurd (nil≢cons p)
     first (n ∷ l) p = (head-eq_of_cons-eq p, tail-eq_of_cons-eq p)
 
--- The loop stands at rule k and word i; `names` is what is kept by rule, and `first` what was at the start.
-pub record Course (table : List ℤ) (rules : ℕ) (first names : List ℕ) (k i : ℕ) : Type 0 where
-  pub left : ℕ
-  pub count : k + left ≡ rules
-  pub cursor : Cursor table left i
-  pub kept : (called : List ℤ → ℕ) → ByRule called (rules_at rules table) first → ByRule called (rules_at left (drop i table)) (drop k names)
-  pub plain : all_plain (rules_at rules table) ≡ true → all_plain (rules_at left (drop i table)) ≡ true
+-- The loop stands at rule k, and the rules that begin at `starts` are left; `names` is what is kept by rule, and `first` what was at the
+-- start.
+pub record Course (table : List ℤ) (rules : ℕ) (first names : List ℕ) (k : ℕ) (starts : List (List ℤ)) : Type 0 where
+  pub count : k + length starts ≡ rules
+  pub kept : (called : List ℤ → ℕ) → ByRule called (rules_at rules table) first → ByRule called (map rule_at starts) (drop k names)
+  pub plain : all_plain (rules_at rules table) ≡ true → all_plain (map rule_at starts) ≡ true
 
-abbrev pub course-start : (table : List ℤ) (rules : ℕ) (names : List ℕ) → sound_rules rules table ≡ true → Course table rules names names 0 0
-course-start table rules names s =
-    record { left = rules; count = omega arith; cursor = record { within = omega arith; sound = s }; kept = λ called e. e; plain = λ e. e }
+abbrev pub course-start : (table : List ℤ) (rules : ℕ) (names : List ℕ) → Course table rules names names 0 (starts_at rules table)
+course-start table rules names = record {
+  count = omega (arith, starts-length rules table);
+  kept = λ called e. rw (← rules_from_starts rules table) e;
+  plain = λ e. rw (← rules_from_starts rules table) e;
+}
 
-module _ {table : List ℤ} {rules : ℕ} {first names : List ℕ} {k i : ℕ} (c : Course table rules first names k i) where
-  -- the rules that are left
-  abbrev pub rest : List InputRule
-  rest = rules_at c.left (drop i table)
-
-  none_left : rules ≤ k → rest ≡ []
-  none_left h = no-rules c.left (drop i table) (omega (arith, c.count))
-
-  pub no-plain-rules : rules ≤ k → expand rest ≡ []
-  unfolding expand
-  no-plain-rules h = ap expand (none_left h)
-
--- the rule at hand
-pub record Turn {table : List ℤ} {rules : ℕ} {first names : List ℕ} {k i : ℕ} (c : Course table rules first names k i) : Type 0 where
-  pub sound : sound_at (drop i table) ≡ true
-  pub here : (i ≤ length table) × (shape_sound (drop i table) ≡ true)
-  pub next : Course table rules first names (k + 1) (i + size_at (drop i table))
-  pub splits : rest c ≡ rule_at (drop i table) ∷ rest next
-  pub kept : (called : List ℤ → ℕ) → ByRule called (rules_at rules table) first → get_or names k 0 ≡ entry called (body_at (drop i table))
-  pub weighted : is_weighted (drop i table) ≡ true → all_plain (rules_at rules table) ≡ false
+-- the rule at hand, which begins the words `ws`
+pub record Turn (table : List ℤ) (rules : ℕ) (first names : List ℕ) (k : ℕ) (ws : List ℤ) (after : List (List ℤ)) : Type 0 where
+  pub below : k < rules
+  pub next : Course table rules first names (k + 1) after
+  pub kept : (called : List ℤ → ℕ) → ByRule called (rules_at rules table) first → get_or names k 0 ≡ entry called (body_at ws)
+  pub weighted : is_weighted ws ≡ true → all_plain (rules_at rules table) ≡ false
 
 -- a test that would ask for another, which fails
 not_plain : (a : Bool) {b : Bool} → (a ≡ true → b ≡ true) → b ≡ false → a ≡ false
 not_plain true f e = absurd (true≢false (sym (f refl) ∙ e))
 not_plain false f e = refl
 
-module _ {table : List ℤ} {rules : ℕ} {first names : List ℕ} {k i : ℕ} where
-  pub turn : (c : Course table rules first names k i) → k < rules → Turn c
-  turn c h =
-      let a = at-rule (omega (arith, h, c.count)) c.cursor in
-      let r = rule_at (drop i table) in
-      let on : (called : List ℤ → ℕ) → ByRule called (rules_at rules table) first
-      → (get_or names k 0 ≡ entry called r.body) × ByRule called (rules_at (c.left - 1) (drop (i + size_at (drop i table)) table)) (drop (k + 1) names)
-      = λ called e. by-rule-on called r (rules_at (c.left - 1) (drop (i + size_at (drop i table)) table)) k names (rw a.rules at (c.kept called e)) in
-      let plain : all_plain (rules_at rules table) ≡ true → all_plain (r ∷ rules_at (c.left - 1) (drop (i + size_at (drop i table)) table)) ≡ true = λ e. rw a.rules at (c.plain e) in
-      record {
-        sound = a.sound;
-        here = a.here;
-        next = record { left = c.left - 1; count = omega (arith, h, c.count); cursor = a.next; kept = λ called e. (on called e).1; plain = λ e. and_right (is_plain r) _ (plain e) };
-        splits = a.rules;
-        kept = λ called e. (on called e).0;
-        weighted = λ e. not_plain (all_plain (rules_at rules table)) (λ p. and_left (is_plain r) _ (plain p)) (plain_at (drop i table) ∙ ap not e);
-      }
+pub turn : {table : List ℤ} {rules : ℕ} {first names : List ℕ} {k : ℕ} {starts : List (List ℤ)} {ws : List ℤ} {after : List (List ℤ)}
+    → Course table rules first names k starts → starts ≡ ws ∷ after → Turn table rules first names k ws after
+turn {table} {rules} {first} {names} {k} {starts} {ws} {after} c e =
+    let r = rule_at ws in
+    let on : (called : List ℤ → ℕ) → ByRule called (rules_at rules table) first
+    → (get_or names k 0 ≡ entry called r.body) × ByRule called (map rule_at after) (drop (k + 1) names)
+    = λ called h. by-rule-on called r (map rule_at after) k names (rw e at (c.kept called h)) in
+    let plain : all_plain (rules_at rules table) ≡ true → all_plain (r ∷ map rule_at after) ≡ true = λ h. rw e at (c.plain h) in
+    record {
+      below = omega (arith, c.count, ap length e);
+      next = record { count = omega (arith, c.count, ap length e); kept = λ called h. (on called h).1; plain = λ h. and_right (is_plain r) _ (plain h) };
+      kept = λ called h. (on called h).0;
+      weighted = λ h. not_plain (all_plain (rules_at rules table)) (λ p. and_left (is_plain r) _ (plain p)) (plain_at ws ∙ ap not h);
+    }
 
 -- A test of the plain rules, for a loop that stops where one passes
 
-module _ {table : List ℤ} {rules : ℕ} {first names : List ℕ} {k i : ℕ} {c : Course table rules first names k i} (t : Turn c) (f : Rule → Bool) where
-  pub one_passes : any f (expand_rule (rule_at (drop i table))) ≡ true → any f (expand (rest c)) ≡ true
-  one_passes e = rw (t.splits, any-more (rule_at (drop i table)) (rest t.next) f, e)
+module _ {starts after : List (List ℤ)} {ws : List ℤ} (e : starts ≡ ws ∷ after) (f : Rule → Bool) where
+  pub one_passes : any f (expand_rule (rule_at ws)) ≡ true → any f (expand (map rule_at starts)) ≡ true
+  one_passes p = rw (e, any-more (rule_at ws) (map rule_at after) f, p)
 
-  pub none_passes : any f (expand_rule (rule_at (drop i table))) ≡ false → any f (expand (rest c)) ≡ any f (expand (rest t.next))
-  none_passes e = rw (t.splits, any-more (rule_at (drop i table)) (rest t.next) f, e)
+  pub none_passes : any f (expand_rule (rule_at ws)) ≡ false → any f (expand (map rule_at starts)) ≡ any f (expand (map rule_at after))
+  none_passes p = rw (e, any-more (rule_at ws) (map rule_at after) f, p)
+
+-- no rule is left
+pub no-plain-rules : {starts : List (List ℤ)} → starts ≡ [] → expand (map rule_at starts) ≡ []
+unfolding expand
+no-plain-rules e = rw e
 
 -- New entries
 
 -- a store at a rule that is done
-abbrev pub course-set : {table : List ℤ} {rules : ℕ} {first names : List ℕ} {i : ℕ} (k x : ℕ) → Course table rules first names (k + 1) i
-    → Course table rules first (set names k x) (k + 1) i
+abbrev pub course-set : {table : List ℤ} {rules : ℕ} {first names : List ℕ} {starts : List (List ℤ)} (k x : ℕ)
+    → Course table rules first names (k + 1) starts → Course table rules first (set names k x) (k + 1) starts
 course-set {names = names} k x c = record {
-  left = c.left;
   count = c.count;
-  cursor = c.cursor;
   kept = λ called e. rw (drop-set-lt (k + 1) names k x (omega arith)) (c.kept called e);
   plain = c.plain;
 }
 
-module _ {table : List ℤ} {rules : ℕ} {first names : List ℕ} {k i : ℕ} {c : Course table rules first names k i} (g : InputRule → ℕ) where
+module _ {k : ℕ} {starts : List (List ℤ)} (g : InputRule → ℕ) where
   -- one more
-  pub entered_on : (t : Turn c) {x : ℕ} → k < length names → x ≡ g (rule_at (drop i table))
-      → take k names ++ map g (rest c) ≡ take (k + 1) (set names k x) ++ map g (rest t.next)
-  entered_on t {x} h e =
-      rw (t.splits, add-one, take-suc-set names k x h, e)
-      (sym (append_assoc (take k names) (g (rule_at (drop i table)) ∷ []) (map g (rest t.next))))
+  pub entered_on : (names : List ℕ) {after : List (List ℤ)} {ws : List ℤ} {x : ℕ} → starts ≡ ws ∷ after → k < length names → x ≡ g (rule_at ws)
+      → take k names ++ map g (map rule_at starts) ≡ take (k + 1) (set names k x) ++ map g (map rule_at after)
+  entered_on names {after} {ws} {x} s h e =
+      rw (s, add-one, take-suc-set names k x h, e)
+      (sym (append_assoc (take k names) (g (rule_at ws) ∷ []) (map g (map rule_at after))))
 
--- and all
-pub entered_all : {table : List ℤ} {rules : ℕ} {first names : List ℕ} {k i : ℕ} (c : Course table rules first names k i) (g : InputRule → ℕ)
-    → rules ≤ k → take k names ++ map g (rest c) ≡ map g (rules_at rules table)
-    → take (length (rules_at rules table)) names ≡ map g (rules_at rules table)
-entered_all {table} {rules} {names = names} {k} c g h e =
-    let n : length (rules_at rules table) ≡ k = rules-count rules table ∙ omega (arith, c.count) in
-    rw (n, ← append-nil (take k names)) (rw (none_left c h) at e)
+  -- and all
+  pub entered_all : {table : List ℤ} {rules : ℕ} {first names : List ℕ} → Course table rules first names k starts → starts ≡ []
+      → take k names ++ map g (map rule_at starts) ≡ map g (rules_at rules table)
+      → take (length (rules_at rules table)) names ≡ map g (rules_at rules table)
+  entered_all {table} {rules} {names = names} c s e =
+      let n : length (rules_at rules table) ≡ k = rules-count rules table ∙ omega (arith, c.count, ap length s) in
+      rw (n, ← append-nil (take k names)) (rw s at e)

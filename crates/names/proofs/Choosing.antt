@@ -3,7 +3,7 @@
 use mathlib.Core.Path.{◌≡◌, refl, sym, ap, fun_ext, ◌∙◌}
 use mathlib.Core.Bool.{Bool, cond, ◌||◌, or-false, or_comm, or_assoc}
 use mathlib.Core.List.{List, [], ◌∷◌, ◌++◌, map, append-nil, append_assoc, map-append, map-map}
-use Prim.Native.Nat.{ℕ, suc, ◌+◌, ◌-◌, ◌<◌, ◌≤◌, min}
+use Prim.Native.Nat.{ℕ, suc, ◌+◌, ◌<◌, ◌≤◌, min}
 use native.Mathlib.Omega.{arith}
 use native.Mathlib.Numerals.{add-one}
 use lib.Dec.{eqb, ltb}
@@ -13,7 +13,7 @@ use lib.Seq.{take-suc-set, take-take, take_at, length-take-le}
 use Rattle.words.specs.Limits.{entries}
 use Rattle.words.specs.Literals.{ascending}
 use Rattle.words.proofs.Lists.{passed}
-use Rattle.weights.specs.Weights.{Weighted, sum, paired, most_weighted, most_sum}
+use Rattle.weights.specs.Weights.{Weighted, sum, paired}
 use Rattle.weights.specs.Completing.{ends}
 use Rattle.weights.proofs.Sublists.{any_append}
 use Rattle.weights.proofs.Minimal.{ltb-decides}
@@ -82,9 +82,6 @@ module _ {pairs body : List ℤ} {bound total least left n : ℕ} {found : List 
           ends-reached bound total least (paired pairs) h
           ∙ ap (λ (t : Bool). cond t ([] ∷ []) []) ((passed (ltb total (bound + least))).to ((ltb-decides total (bound + least)).from k))
 
-  pub chosen-few : length (take n body) ≤ most_weighted
-  chosen-few = omega (arith, length-take-le n body (omega (arith, z.room, z.row)), z.room)
-
   -- otherwise there is a pair
   pub some_left : total < bound → 1 < length pairs
   some_left k = go pairs (omega (arith, z.sums, z.reaches))
@@ -110,41 +107,8 @@ module _ {pairs body : List ℤ} {bound total least left n : ℕ} {found : List 
     room_next : n + suc (length rest) ≤ length body
     room_next = omega (arith, z.room, z.row, ap length split)
 
-    pub lighter : x.weight ≤ left
-    lighter = omega (arith, sums_next)
-
-    pub in_body : n < length body
+    in_body : n < length body
     in_body = omega (arith, room_next)
-
-    pub adds : total + x.weight ≤ most_sum
-    adds = omega (arith, z.fits, sums_next)
-
-    -- what the calls ask, of numbers and words that are known by other names
-    pub ask-with : {ps : List ℤ} {m w : ℕ} {y : ℤ} → ps ≡ drop 2 pairs → m ≡ min least w → w ≡ x.weight → y ≡ x.literal
-        → Choosing ps bound (total + w) m (left - w) (set body n y) (n + 1) found
-    ask-with p q e f = rw (p, q, e, f) (record {
-      small = z.small;
-      light = omega (arith, z.light);
-      fits = omega (arith, z.fits, sums_next);
-      sums = omega (arith, sums_next);
-      reaches = omega (arith, z.reaches, sums_next);
-      row = length-set body n x.literal ∙ z.row;
-      room = omega (arith, room_next, z.row);
-      marks = z.marks;
-    })
-
-    pub ask-without : {ps after : List ℤ} {w : ℕ} {found' : List ℕ} → ps ≡ drop 2 pairs → w ≡ x.weight → bound + w ≤ total + left
-        → length after ≡ length body → length found' ≡ length found → Choosing ps bound total least (left - w) after n found'
-    ask-without p q h e f = rw (p, q) (record {
-      small = z.small;
-      light = z.light;
-      fits = omega (arith, z.fits);
-      sums = omega (arith, sums_next);
-      reaches = omega (arith, sums_next);
-      row = e ∙ z.row;
-      room = omega (arith, room_next, z.row);
-      marks = f ∙ z.marks;
-    })
 
     -- with the literal and without it
     longer : take (n + 1) (set body n x.literal) ≡ take n body ++ (x.literal ∷ [])

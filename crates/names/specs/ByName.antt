@@ -1,13 +1,11 @@
 -- The bodies of at most 12 literals, by the name that a `b` step gave them: what private functions of the checker cite. A record for each
 -- variable holds the body that it names; after the records stands an index that makes lookups quick and of which little is said.
 -- Assumes nothing.
-use Rattle.std.specs.Prelude.{◌≡◌, Bool, false, cond, List, [], ◌∷◌, ℕ, suc, ◌+◌, ◌*◌, ◌/◌, ◌%◌, ◌≤◌, ◌<◌, eqb, ℤ, pos, length, take, drop, get_or}
+use Rattle.std.specs.Prelude.{Option, Some, None, ◌≡◌, Bool, false, cond, List, [], ◌∷◌, ℕ, suc, ◌+◌, ◌*◌, ◌/◌, ◌%◌, ◌≤◌, eqb, ℤ, pos, length, take, drop, get_or}
 use Rattle.std.specs.Int.Signed.{lt_z}
 use Rattle.words.specs.Limits.{largest, entries}
 use Rattle.words.specs.Literals.{variable, same_list}
 use Rattle.weights.specs.Weights.{most_weighted}
-use Rattle.names.specs.declared.by_name.Recorded.{Recorded}
-use Rattle.names.specs.declared.by_name.Recorded.TheVariants.{Body, Nothing}
 
 -- the words of a record: the count of literals and one more, 0 where there is no body, and the literals
 abbrev pub width : ℕ
@@ -53,16 +51,15 @@ pub record PutName (first : ℕ) (before after : List ℤ) : Type 0 where
   pub here : Taken after first
   pub still : (k : ℕ) → Taken before k → Taken after k
 
--- what is told of a record by its first word: the count of literals and one more, or 0 where it holds no body of at most 12 literals
-pub record Counted (first : ℤ) (count : ℕ) : Type 0 where
-  pub most : count ≤ width
-  pub is : 1 ≤ count → first ≡ pos count
-  pub none : count ≡ 0 → (k : ℕ) → k < width → ¬ (first ≡ pos (suc k))
+-- what is told of a record by its first word: the count of literals, or that it holds no body of at most 12 literals
+abbrev pub Counted : ℤ → Option ℕ → Type 0
+Counted first (Some n) = (n ≤ most_weighted) × (first ≡ pos (suc n))
+Counted first None = (n : ℕ) → n ≤ most_weighted → ¬ (first ≡ pos (suc n))
 
 -- what is told of the body that is called `name`: it is the first n literals of the row, or there is none of at most 12 literals
-abbrev pub Told : List ℤ → ℕ → List ℤ → Recorded → Type 0
-Told m name row (Body n) =
+abbrev pub Told : List ℤ → ℕ → List ℤ → Option ℕ → Type 0
+Told m name row (Some n) =
     (n ≤ most_weighted)
     × ((called : List ℤ → ℕ) → Called m called → 1 ≤ name → (L : List ℤ) → length L ≤ most_weighted → eqb (called L) name ≡ same_list (take n row) L)
-Told m name row Nothing =
+Told m name row None =
     (called : List ℤ → ℕ) → Called m called → 1 ≤ name → (L : List ℤ) → length L ≤ most_weighted → eqb (called L) name ≡ false

@@ -1,6 +1,6 @@
 // The bodies of at most 12 literals, kept by name: a record for each variable, and an index of the names by a key of their bodies.
 // Where no rule has a weight body no records are lent, and of an array of another length the public functions say and do nothing.
-ghost use Rattle.std.specs.Prelude.{◌≡◌, true, cond, List, ℕ, ◌+◌, ◌*◌, ◌<◌, ◌≤◌, ℤ, pos, length, get_or};
+ghost use Rattle.std.specs.Prelude.{IfSome, MatchOption, ◌≡◌, true, false, cond, List, ℕ, ◌+◌, ◌*◌, ◌<◌, ◌≤◌, ℤ, pos, length, get_or};
 ghost use Rattle.std.proofs.lemmas.List.Edits.{sets};
 ghost use Rattle.words.specs.Limits.{largest, entries};
 ghost use Rattle.words.specs.Literals.{same, same_list, top};
@@ -23,27 +23,15 @@ const KEYS: usize = 4294967296;
 
 const FACTOR: usize = 1640531527;
 
-// The body with a name: so many literals of the row, or none of at most 12 literals.
-#[derive(Clone, Copy)]
-pub enum Recorded {
-    Body(usize),
-    Nothing,
-}
-
 // As many words are the body's literals.
 fn is_body(words: &[i16], body: &[i32]) -> bool
     requires { length words.now ≡ length body.now }
     ensures { result ≡ same_list words.now body.now }
 {
-    let mut i = 0;
-    while i < words.len() {
-        if words::is_same(words::word_of(words, i), body[i]) {
-            i += 1;
-        } else {
-            return false;
-        }
-    }
-    true
+    words
+        .iter()
+        .zip(body)
+        .all(|(w, b)| words::is_same(i32::from(*w), *b))
 }
 
 // The record of v holds the body.
@@ -75,24 +63,19 @@ fn place_of(body: &[i32]) -> usize
     ensures { (result ≡ place_of body.now) × (result < entries) }
 {
     let mut key = 0;
-    let mut i = 0;
-    while i < body.len() {
-        key = mix(key, body[i]);
-        i += 1;
+    for word in body {
+        key = mix(key, *word);
     }
     key / (KEYS / ENTRIES)
 }
 
-// The name at a place of the index; 0 for none.
-fn name_in(bodies: &[i16], place: usize) -> usize
+// The name at a place of the index, if there is one.
+fn name_in(bodies: &[i16], place: usize) -> Option<usize>
     requires { (length bodies.now ≡ body_words) × (place < entries) }
-    ensures { result ≤ largest }
+    ensures { IfSome result (λ v. (1 ≤ v) × (v ≤ largest)) }
 {
     let v = words::variable_of(words::word_of(bodies, INDEX + place));
-    if v <= LARGEST {
-        return v;
-    }
-    0
+    if 0 < v && v <= LARGEST { Some(v) } else { None }
 }
 
 // No name stands at a place of the index.
@@ -103,43 +86,32 @@ fn is_free(bodies: &[i16], place: usize) -> bool
     words::is_same(words::word_of(bodies, INDEX + place), 0)
 }
 
-// A name of the body that the index tells from a place on, or 0.
-fn hinted(bodies: &[i16], first: usize, body: &[i32]) -> usize
+// A name of the body that the index tells from a place on, up to the first place without a name.
+fn hinted(bodies: &[i16], first: usize, body: &[i32]) -> Option<usize>
     requires { (length bodies.now ≡ body_words) × (first < entries) × (length body.now ≤ most_weighted) }
-    ensures { (result ≤ largest) × (1 ≤ result → stands_at bodies.now result body.now ≡ true) }
+    ensures { IfSome result (λ v. (1 ≤ v) × (v ≤ largest) × (stands_at bodies.now v body.now ≡ true)) }
 {
-    let mut place = first;
-    let mut left = ENTRIES;
-    while 0 < left {
-        let v = name_in(bodies, place);
-        if v == 0 {
-            return 0;
-        }
+    for k in 0..ENTRIES {
+        let v = name_in(bodies, (first + k) % ENTRIES)?;
         if stands_at(bodies, v, body) {
-            return v;
+            return Some(v);
         }
-        place = (place + 1) % ENTRIES;
-        left -= 1;
     }
-    0
+    None
 }
 
-// The first name whose record holds the body, or 0.
-fn found(bodies: &[i16], body: &[i32]) -> usize
+// The first name whose record holds the body.
+fn found(bodies: &[i16], body: &[i32]) -> Option<usize>
     requires { (length bodies.now ≡ body_words) × (length body.now ≤ most_weighted) }
-    ensures { (result ≤ largest) × ((called : List ℤ → ℕ) → Called bodies.now called → result ≡ called body.now) }
+    ensures { MatchOption result ((v : ℕ) → 1 ≤ v → v < entries → stands_at bodies.now v body.now ≡ false)
+        (λ v. (1 ≤ v) × (v < entries) × (stands_at bodies.now v body.now ≡ true)
+        × ((u : ℕ) → 1 ≤ u → u < v → stands_at bodies.now u body.now ≡ false)) }
 {
-    let mut v = 1;
-    while v <= LARGEST {
-        if stands_at(bodies, v, body) {
-            return v;
-        }
-        v += 1;
-    }
-    0
+    (1..ENTRIES).find(|v| stands_at(bodies, *v, body))
 }
 
 // The body's name, 0 where it has none. A place that is free tells that at once; where the index tells no name, the records do.
+// No Option: 0 is the name of a body without one in `Called` and in every contract that speaks of names.
 pub fn name_of(bodies: &[i16], body: &[i32]) -> u16
     requires { length body.now ≤ most_weighted }
     ensures { (called : List ℤ → ℕ) → Called bodies.now called → result ≡ called body.now }
@@ -151,11 +123,13 @@ pub fn name_of(bodies: &[i16], body: &[i32]) -> u16
     if is_free(bodies, place) {
         return 0;
     }
-    let v = hinted(bodies, place, body);
-    if 0 < v {
+    if let Some(v) = hinted(bodies, place, body) {
         return v as u16;
     }
-    found(bodies, body) as u16
+    match found(bodies, body) {
+        Some(v) => v as u16,
+        None => 0,
+    }
 }
 
 // The words from a place on become the body's literals.
@@ -163,10 +137,8 @@ fn put_body(bodies: &mut [i16], at: usize, body: &[i32])
     requires { (at + length body.now ≤ length bodies.old) × (top body.now ≤ largest) }
     ensures { bodies.new ≡ sets bodies.old at body.now }
 {
-    let mut i = 0;
-    while i < body.len() {
+    for i in 0..body.len() {
         bodies[at + i] = body[i] as i16;
-        i += 1;
     }
 }
 
@@ -175,15 +147,12 @@ fn put_name(bodies: &mut [i16], first: usize, name: usize)
     requires { (length bodies.old ≡ body_words) × (first < entries) × (1 ≤ name) × (name ≤ largest) }
     ensures { PutName first bodies.old bodies.new }
 {
-    let mut place = first;
-    let mut left = ENTRIES;
-    while 0 < left {
+    for k in 0..ENTRIES {
+        let place = (first + k) % ENTRIES;
         if is_free(bodies, place) {
             bodies[INDEX + place] = name as i16;
             return;
         }
-        place = (place + 1) % ENTRIES;
-        left -= 1;
     }
 }
 
@@ -203,34 +172,30 @@ pub fn enter_body(bodies: &mut [i16], name: usize, body: &[i32])
     put_name(bodies, place, name);
 }
 
-// The count of a record's literals and one more; 0 where it holds no body of at most 12 literals.
-fn count_of(bodies: &[i16], name: usize) -> usize
+// The count of a record's literals, where it holds a body of at most 12.
+fn count_of(bodies: &[i16], name: usize) -> Option<usize>
     requires { (length bodies.now ≡ body_words) × (name ≤ largest) }
     ensures { Counted (get_or bodies.now (width * name) (pos 0)) result }
 {
     let first = words::word_of(bodies, WIDTH * name);
-    if words::is_positive(first) {
-        let count = words::variable_of(first);
-        if count <= WIDTH {
-            return count;
-        }
+    let count = words::variable_of(first);
+    if words::is_positive(first) && count <= WIDTH {
+        Some(count - 1)
+    } else {
+        None
     }
-    0
 }
 
-// The body with the name, in the row.
-pub fn body_of(bodies: &[i16], name: usize, row: &mut [i32]) -> Recorded
+// The body with the name: so many literals of the row, or none of at most 12 literals.
+pub fn body_of(bodies: &[i16], name: usize, row: &mut [i32]) -> Option<usize>
     requires { (name ≤ largest) × (most_weighted ≤ length row.old) }
     ensures { Told bodies.now name row.new result }
 {
     if bodies.len() != BODY_WORDS {
-        return Recorded::Nothing;
+        return None;
     }
-    let count = count_of(bodies, name);
-    if count == 0 {
-        return Recorded::Nothing;
-    }
-    let at = WIDTH * name;
-    words::widen(&bodies[at + 1..at + count], row);
-    Recorded::Body(count - 1)
+    let count = count_of(bodies, name)?;
+    let at = WIDTH * name + 1;
+    words::widen(&bodies[at..at + count], row);
+    Some(count)
 }

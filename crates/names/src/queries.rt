@@ -5,14 +5,14 @@ ghost use Rattle.words.specs.Limits.{largest, entries};
 ghost use Rattle.words.specs.Lists.{any};
 ghost use Rattle.words.specs.Literals.{same_list, top};
 ghost use Rattle.aspif.specs.Rules.{InputRule, bodies_of, expand_rule, expand, is_normal};
-ghost use Rattle.aspif.specs.Tables.{is_weighted, heads_at, body_at, rule_at, shape_sound, sound_at};
+ghost use Rattle.aspif.specs.Tables.{is_weighted, heads_at, body_at, rule_at};
 ghost use Rattle.weights.specs.Weights.{most_weighted};
 ghost use Rattle.names.specs.ByName.{Called, Told};
 ghost use Rattle.names.specs.Minimal.{AlsoMarks};
 ghost use Rattle.names.specs.Queries.{HoldsRules, entry, Kept, is_inside, asks_heads, asked_names, MarksNames, completing, constraining};
 
-use crate::by_name::Recorded;
 use crate::{by_name, minimal};
+use aspif::tables::Rule;
 use aspif::{Kind, tables};
 use weights::MOST_WEIGHTED;
 use words::ENTRIES;
@@ -39,81 +39,56 @@ pub fn is_inside(word: i32, inside: &[u8]) -> bool
 pub fn any_inside(literals: &[i32], inside: &[u8]) -> bool
     ensures { result ≡ any (is_inside inside.now) literals.now }
 {
-    let mut i = 0;
-    while i < literals.len() {
-        if is_inside(literals[i], inside) {
-            return true;
-        }
-        i += 1;
-    }
-    false
+    literals.iter().any(|literal| is_inside(*literal, inside))
 }
 
-// The rule at the front is normal.
-fn is_normal(words: &[i32]) -> bool
-    ensures { result ≡ is_normal (rule_at words.now).kind }
+fn is_normal(rule: &Rule) -> bool
+    ensures { result ≡ is_normal (rule_at rule.now.words.now).kind }
 {
-    let kind = tables::kind_of(words);
-    match kind {
+    match rule.kind() {
         Kind::Normal => true,
         Kind::Choice => false,
     }
 }
 
-// The rule at the front is normal, with just these heads.
-pub fn is_normal_with(words: &[i32], heads: &[i32]) -> bool
-    requires { shape_sound words.now ≡ true }
-    ensures { let rule = rule_at words.now in
-        result ≡ (is_normal rule.kind && same_list rule.heads heads.now) }
+// The rule is normal, with just these heads.
+pub fn is_normal_with(rule: &Rule, heads: &[i32]) -> bool
+    ensures { let at = rule_at rule.now.words.now in
+        result ≡ (is_normal at.kind && same_list at.heads heads.now) }
 {
-    if is_normal(words) {
-        return words::is_same_list(tables::heads_of(words), heads);
+    if is_normal(rule) {
+        return words::is_same_list(rule.heads(), heads);
     }
     false
 }
 
-// The query asks for rules with the heads of the rule at the front.
-fn asks_heads(words: &[i32], query: Query, inside: &[u8]) -> bool
-    requires { shape_sound words.now ≡ true }
-    ensures { result ≡ asks_heads query inside.now (heads_at words.now) }
+// The query asks for rules with the heads of the rule.
+fn asks_heads(rule: &Rule, query: Query, inside: &[u8]) -> bool
+    ensures { result ≡ asks_heads query inside.now (heads_at rule.now.words.now) }
 {
     match query {
-        Query::Head(h) => words::contains(tables::heads_of(words), h),
-        Query::External => any_inside(tables::heads_of(words), inside),
+        Query::Head(h) => words::contains(rule.heads(), h),
+        Query::External => any_inside(rule.heads(), inside),
     }
 }
 
-// Marks the names of those bodies of the rule at the front that the query asks for; `name` is what is kept by rule.
-fn mark_asked(
-    words: &[i32],
-    query: Query,
-    inside: &[u8],
-    name: u16,
-    bodies: &[i16],
-    found: &mut [u8],
-)
-    requires rule { sound_at words.now ≡ true }
+// Marks the names of those bodies of the rule that the query asks for; `name` is what is kept by rule.
+fn mark_asked(rule: &Rule, query: Query, inside: &[u8], name: u16, bodies: &[i16], found: &mut [u8])
     requires found { length found.old ≡ entries }
-    ensures { (called : List ℤ → ℕ) → (is_weighted words.now ≡ true → Called bodies.now called)
-        → name ≡ entry called (body_at words.now)
+    ensures { (called : List ℤ → ℕ) → (is_weighted rule.now.words.now ≡ true → Called bodies.now called)
+        → name ≡ entry called (body_at rule.now.words.now)
         → AlsoMarks found.old found.new
-        (asked_names query inside.now called (expand_rule (rule_at words.now))) }
+        (asked_names query inside.now called (expand_rule (rule_at rule.now.words.now))) }
 {
-    if !asks_heads(words, query, inside) {
+    if !asks_heads(rule, query, inside) {
         return;
     }
-    if tables::is_weighted(words) {
-        minimal::mark_bodies(
-            tables::body_of(words),
-            tables::bound_of(words),
-            inside,
-            bodies,
-            found,
-        );
+    if rule.is_weighted() {
+        minimal::mark_bodies(rule.body(), rule.bound(), inside, bodies, found);
         return;
     }
-    if !any_inside(tables::body_of(words), inside) {
-        marks::mark(found, name as usize);
+    if !any_inside(rule.body(), inside) {
+        marks::mark(found, usize::from(name));
     }
 }
 
@@ -134,59 +109,49 @@ pub fn mark_names(
         → (called : List ℤ → ℕ) → Kept names.now bodies.now called ws
         → MarksNames found.new (asked_names query inside.now called (expand ws)) }
 {
-    let mut k = 0;
-    let mut i = 0;
-    while k < rules {
-        let rest = &table[i..];
-        mark_asked(rest, query, inside, names[k], bodies, found);
+    for (k, rule) in tables::rules_in(table, rules).enumerate() {
+        mark_asked(&rule, query, inside, names[k], bodies, found);
         if marks::is_marked(found, 0) {
             return;
         }
-        i = tables::next_rule(table, i);
-        k += 1;
     }
 }
 
-// The literals are a body of the rule at the front.
-fn has_body(words: &[i32], body: &[i32]) -> bool
-    requires { sound_at words.now ≡ true }
-    ensures { result ≡ any (same_list body.now) (bodies_of (body_at words.now)) }
+// The literals are a body of the rule.
+fn has_body(rule: &Rule, body: &[i32]) -> bool
+    ensures { result ≡ any (same_list body.now) (bodies_of (body_at rule.now.words.now)) }
 {
-    if tables::is_weighted(words) {
-        return weights::is_body(tables::body_of(words), tables::bound_of(words), body);
+    if rule.is_weighted() {
+        return weights::is_body(rule.body(), rule.bound(), body);
     }
-    words::is_same_list(body, tables::body_of(words))
+    words::is_same_list(body, rule.body())
 }
 
-// What the body, which is one of the rule at the front, is called; `name` is what is kept by rule.
-fn name_at(words: &[i32], body: &[i32], name: u16, bodies: &[i16]) -> u16
-    requires rule { (sound_at words.now ≡ true) × (any (same_list body.now) (bodies_of (body_at words.now)) ≡ true) }
-    ensures { (called : List ℤ → ℕ) → (is_weighted words.now ≡ true → Called bodies.now called)
-        → name ≡ entry called (body_at words.now)
+// What the body, which is one of the rule, is called; `name` is what is kept by rule.
+fn name_at(rule: &Rule, body: &[i32], name: u16, bodies: &[i16]) -> u16
+    requires { any (same_list body.now) (bodies_of (body_at rule.now.words.now)) ≡ true }
+    ensures { (called : List ℤ → ℕ) → (is_weighted rule.now.words.now ≡ true → Called bodies.now called)
+        → name ≡ entry called (body_at rule.now.words.now)
         → result ≡ called body.now }
 {
-    if tables::is_weighted(words) {
+    if rule.is_weighted() {
         return by_name::name_of(bodies, body);
     }
     name
 }
 
 // What the literals, ascending, are called as a body of the rules: 0 where that has no name, 8,192 where no rule has the body.
+// No Option: the contract of body_name is public and names both numbers.
 pub fn body_name(table: &[i32], rules: usize, names: &[u16], bodies: &[i16], body: &[i32]) -> usize
     requires program { ((ws : List InputRule) × HoldsRules table.now rules ws) × (rules ≤ length names.now) }
     ensures { (ws : List InputRule) → HoldsRules table.now rules ws
         → (called : List ℤ → ℕ) → Kept names.now bodies.now called ws
         → result ≡ cond (any (λ x. same_list body.now x.body) (expand ws)) (called body.now) entries }
 {
-    let mut k = 0;
-    let mut i = 0;
-    while k < rules {
-        let rest = &table[i..];
-        if has_body(rest, body) {
-            return name_at(rest, body, names[k], bodies) as usize;
+    for (k, rule) in tables::rules_in(table, rules).enumerate() {
+        if has_body(&rule, body) {
+            return usize::from(name_at(&rule, body, names[k], bodies));
         }
-        i = tables::next_rule(table, i);
-        k += 1;
     }
     ENTRIES
 }
@@ -201,44 +166,40 @@ pub fn is_unnamed(table: &[i32], rules: usize, names: &[u16], bodies: &[i16], bo
     body_name(table, rules, names, bodies, body) == 0
 }
 
-// Some body of the rule at the front has the name, whose literals are those recorded; `kept` is what is kept by rule.
-fn is_named(words: &[i32], name: u16, kept: u16, recorded: Recorded, row: &[i32]) -> bool
-    requires rule { sound_at words.now ≡ true }
+// Some body of the rule has the name, whose literals are those recorded; `kept` is what is kept by rule.
+fn is_named(rule: &Rule, name: u16, kept: u16, recorded: Option<usize>, row: &[i32]) -> bool
     requires row { (length row.now ≡ most_weighted) × ((bodies : List ℤ) × Told bodies name row.now recorded) }
-    ensures { (bodies : List ℤ) (called : List ℤ → ℕ) → (is_weighted words.now ≡ true → Called bodies called)
+    ensures { (bodies : List ℤ) (called : List ℤ → ℕ) → (is_weighted rule.now.words.now ≡ true → Called bodies called)
         → Told bodies name row.now recorded
-        → 1 ≤ name → kept ≡ entry called (body_at words.now)
-        → result ≡ any (λ ls. eqb (called ls) name) (bodies_of (body_at words.now)) }
+        → 1 ≤ name → kept ≡ entry called (body_at rule.now.words.now)
+        → result ≡ any (λ ls. eqb (called ls) name) (bodies_of (body_at rule.now.words.now)) }
 {
-    if !tables::is_weighted(words) {
+    if !rule.is_weighted() {
         return kept == name;
     }
     match recorded {
-        Recorded::Body(n) => {
-            weights::is_body(tables::body_of(words), tables::bound_of(words), &row[..n])
-        }
-        Recorded::Nothing => false,
+        Some(n) => weights::is_body(rule.body(), rule.bound(), &row[..n]),
+        None => false,
     }
 }
 
-// The rule at the front is normal with just these heads, and some body of it has the name.
+// The rule is normal with just these heads, and some body of it has the name.
 fn completes(
-    words: &[i32],
+    rule: &Rule,
     heads: &[i32],
     name: u16,
     kept: u16,
-    recorded: Recorded,
+    recorded: Option<usize>,
     row: &[i32],
 ) -> bool
-    requires rule { sound_at words.now ≡ true }
     requires row { (length row.now ≡ most_weighted) × ((bodies : List ℤ) × Told bodies name row.now recorded) }
-    ensures { (bodies : List ℤ) (called : List ℤ → ℕ) → (is_weighted words.now ≡ true → Called bodies called)
+    ensures { (bodies : List ℤ) (called : List ℤ → ℕ) → (is_weighted rule.now.words.now ≡ true → Called bodies called)
         → Told bodies name row.now recorded
-        → 1 ≤ name → kept ≡ entry called (body_at words.now)
-        → result ≡ any (completing called heads.now name) (expand_rule (rule_at words.now)) }
+        → 1 ≤ name → kept ≡ entry called (body_at rule.now.words.now)
+        → result ≡ any (completing called heads.now name) (expand_rule (rule_at rule.now.words.now)) }
 {
-    if is_normal_with(words, heads) {
-        return is_named(words, name, kept, recorded, row);
+    if is_normal_with(rule, heads) {
+        return is_named(rule, name, kept, recorded, row);
     }
     false
 }
@@ -260,26 +221,20 @@ pub fn is_completed(
 {
     let mut row = [0i32; MOST_WEIGHTED];
     let recorded = by_name::body_of(bodies, name, &mut row);
-    let mut k = 0;
-    let mut i = 0;
-    while k < rules {
-        let rest = &table[i..];
-        if completes(rest, heads, name as u16, names[k], recorded, &row) {
+    for (k, rule) in tables::rules_in(table, rules).enumerate() {
+        if completes(&rule, heads, name as u16, names[k], recorded, &row) {
             return true;
         }
-        i = tables::next_rule(table, i);
-        k += 1;
     }
     false
 }
 
-// The rule at the front is a constraint with the body.
-fn constrains(words: &[i32], body: &[i32]) -> bool
-    requires { sound_at words.now ≡ true }
-    ensures { result ≡ any (constraining body.now) (expand_rule (rule_at words.now)) }
+// The rule is a constraint with the body.
+fn constrains(rule: &Rule, body: &[i32]) -> bool
+    ensures { result ≡ any (constraining body.now) (expand_rule (rule_at rule.now.words.now)) }
 {
-    if is_normal_with(words, &body[..0]) {
-        return has_body(words, body);
+    if is_normal_with(rule, &body[..0]) {
+        return has_body(rule, body);
     }
     false
 }
@@ -290,29 +245,23 @@ pub fn is_constraint(table: &[i32], rules: usize, body: &[i32]) -> bool
     ensures { (ws : List InputRule) → HoldsRules table.now rules ws
         → result ≡ any (constraining body.now) (expand ws) }
 {
-    let mut k = 0;
-    let mut i = 0;
-    while k < rules {
-        let rest = &table[i..];
-        if constrains(rest, body) {
+    for rule in tables::rules_in(table, rules) {
+        if constrains(&rule, body) {
             return true;
         }
-        i = tables::next_rule(table, i);
-        k += 1;
     }
     false
 }
 
-// What is kept by rule for the rule at the front, once the body has the name: `kept` before.
-pub fn name_for(words: &[i32], body: &[i32], name: u16, kept: u16) -> u16
-    requires { shape_sound words.now ≡ true }
-    ensures { (called : List ℤ → ℕ) → kept ≡ entry called (body_at words.now)
-        → result ≡ entry (λ L. cond (same_list body.now L) name (called L)) (body_at words.now) }
+// What is kept by rule for the rule, once the body has the name: `kept` before.
+pub fn name_for(rule: &Rule, body: &[i32], name: u16, kept: u16) -> u16
+    ensures { (called : List ℤ → ℕ) → kept ≡ entry called (body_at rule.now.words.now)
+        → result ≡ entry (λ L. cond (same_list body.now L) name (called L)) (body_at rule.now.words.now) }
 {
-    if tables::is_weighted(words) {
+    if rule.is_weighted() {
         return kept;
     }
-    if words::is_same_list(body, tables::body_of(words)) {
+    if words::is_same_list(body, rule.body()) {
         return name;
     }
     kept
@@ -325,13 +274,8 @@ fn enter_rules(table: &[i32], rules: usize, body: &[i32], name: u16, names: &mut
         → take (length ws) names.old ≡ map (λ r. entry called r.body) ws
         → take (length ws) names.new ≡ map (λ r. entry (λ L. cond (same_list body.now L) name (called L)) r.body) ws }
 {
-    let mut k = 0;
-    let mut i = 0;
-    while k < rules {
-        let rest = &table[i..];
-        names[k] = name_for(rest, body, name, names[k]);
-        i = tables::next_rule(table, i);
-        k += 1;
+    for (k, rule) in tables::rules_in(table, rules).enumerate() {
+        names[k] = name_for(&rule, body, name, names[k]);
     }
 }
 

@@ -4,13 +4,13 @@ use mathlib.Core.Path.{◌≡◌, refl, sym, ap, ap₂, subst, ◌∙◌}
 use mathlib.Core.Bool.{true, false}
 use mathlib.Core.List.Memᴰ
 use mathlib.Core.List.{List, [], ◌∷◌, ◌++◌, append-nil, append_assoc}
-use Prim.Native.Nat.{ℕ, suc, ◌+◌, ◌-◌, ◌≤◌, ◌<◌}
+use Prim.Native.Nat.{ℕ, ◌+◌, ◌-◌, ◌≤◌, ◌<◌}
 use native.Mathlib.Omega.{arith}
-use native.Mathlib.Numerals.{add-one}
 use lib.IntN.{ℤ, pos}
-use lib.ListN.{length, take, drop, get_or, set, replicate, length-set, length-drop, length-append, replicate-append-replicate}
-use lib.Seq.{take-suc, take-suc-set, drop-set-lt, take_at, drop_at, get_or-drop, drop-drop, length-take-le}
+use lib.ListN.{length, take, drop, replicate, length-drop, length-append, replicate-append-replicate}
+use lib.Seq.{paste, take-paste, drop-paste, length-paste, take_at, drop_at, drop-drop, length-take-le}
 use borrow.Rule.Slice.PartMut.{put_mid}
+use Rattle.std.specs.List.{copy_within}
 use Rattle.words.specs.Lists.{◌∈◌}
 use Rattle.words.proofs.Lists.{concat-append}
 use Rattle.words.proofs.Segments.{Segment, at_front, none_left}
@@ -24,38 +24,19 @@ use Rattle.nogoods.proofs.Stored.{holds→, holds←}
 
 -- Words
 
-module _ (to from : ℕ) (before : List ℤ) where
-  pub moved_none : MovedDown to from 0 before before
-  moved_none = record { front = rw (plus-zero to) (sym (append-nil (take to before))); back = refl; size = refl }
-    where
-      plus-zero : (n : ℕ) → n + 0 ≡ n
-      plus-zero n = omega arith
-
-  pub moved_more : (k : ℕ) (s : List ℤ) → to ≤ from → from + k < length before → MovedDown to from k before s
-      → MovedDown to from (k + 1) before (set s (to + k) (get_or s (from + k) (pos 0)))
-  moved_more k s h r m =
-      let v = get_or s (from + k) (pos 0) in
-      let n = from + k in
-      let z : n + 0 ≡ n = omega arith in
-      let word : v ≡ get_or before n (pos 0) =
-      ap (λ i. get_or s i (pos 0)) (sym z) ∙ sym (get_or-drop n s 0 (pos 0)) ∙ ap (λ (l : List ℤ). get_or l 0 (pos 0)) m.back
-      ∙ get_or-drop n before 0 (pos 0) ∙ ap (λ i. get_or before i (pos 0)) z in
-      let a : to + (k + 1) ≡ suc (to + k) = omega arith in
-      let b : from + (k + 1) ≡ n + 1 = omega arith in
-      record {
-        front = rw a (take-suc-set s (to + k) v (omega (arith, m.size))
-            ∙ ap₂ (λ (x : List ℤ) (w : ℤ). x ++ (w ∷ [])) m.front word
-            ∙ append_assoc (take to before) (take k (drop from before)) (get_or before n (pos 0) ∷ [])
-            ∙ ap (λ (x : List ℤ). take to before ++ x) (sym (next)));
-        back = rw b (drop-set-lt (n + 1) s (to + k) v (omega arith) ∙ sym (drop-drop 1 n s)
-            ∙ ap (drop 1) m.back ∙ drop-drop 1 n before);
-        size = length-set s (to + k) v ∙ m.size;
-      }
-    where
-      next : take (k + 1) (drop from before) ≡ take k (drop from before) ++ (get_or before (from + k) (pos 0) ∷ [])
-      next =
-          rw add-one (take-suc (drop from before) k (pos 0) (simp length-drop (omega arith))
-          ∙ ap (λ (w : ℤ). take k (drop from before) ++ (w ∷ [])) (get_or-drop from before k (pos 0)))
+pub copied : (to from n : ℕ) (before : List ℤ) → to ≤ from → from + n ≤ length before → MovedDown to from n before (copy_within before from (from + n) to)
+copied to from n before h r =
+    let e : from + n - from ≡ n = omega arith in
+    let t : to ≤ length before = omega arith in
+    let m : n ≤ length (drop from before) = simp length-drop (omega arith) in
+    let after = paste before to (drop from before) n in
+    let i : to + n + (from - to) ≡ from + n = omega arith in
+    rw e (record {
+      front = take-paste before to (drop from before) n t m;
+      back = rw (← i) (sym (drop-drop (from - to) (to + n) after) ∙ ap (drop (from - to)) (drop-paste before to (drop from before) n t m)
+          ∙ drop-drop (from - to) (to + n) before);
+      size = length-paste before to (drop from before) n (omega arith) m;
+    })
 
 -- what stood after the words that were moved stays
 moved-after : {to from n : ℕ} {s t : List ℤ} → MovedDown to from n s t → (k : ℕ) → from + n ≤ k → drop k t ≡ drop k s

@@ -10,11 +10,12 @@ use native.Mathlib.Nat.{mod-lt}
 use native.Mathlib.Omega.{arith}
 use lib.IntN.{ℤ}
 use lib.ListN.{length, take, drop, get_or, set, length-append, length-set, length-drop, replicate}
-use lib.Seq.{get_or-set_same, get_or-set_other, get_or-take}
+use lib.Seq.{get_or-set_same, get_or-set_other, get_or-take, length-take-le}
 use borrow.Rule.Slice.PartMut.{put_mid}
+use Rattle.std.proofs.lemmas.List.{get_or_append_left}
 use Rattle.words.specs.Lists.{◌∈◌}
 use Rattle.words.specs.Descending.{Descends, Leads, Changed}
-use Rattle.words.proofs.Descending.{below?, fewer, same-places, same_entries, entered, unlinked-first, unlinked-next, changed, unchanged}
+use Rattle.words.proofs.Descending.{Walking, below?, fewer, same-places, same_entries, entered, unlinked-first, unlinked-next, changed, unchanged}
 use Rattle.words.proofs.Laws.{padded}
 use Rattle.words.proofs.Lists.{if-true, concat-append}
 use Rattle.words.proofs.Literals.{same_list-decides}
@@ -25,10 +26,10 @@ use Rattle.nogoods.specs.Store.{Stored, dead_of, is_target, killed, stored_words
 use Rattle.nogoods.specs.Keeps.{Holds}
 use Rattle.nogoods.specs.Records.{Encodes, end_at, nogood_at, stored_at}
 use Rattle.nogoods.specs.Finds.{found_at, Skips}
-use Rattle.nogoods.specs.Index.{fixed_cells, cells_per_chain, most_scale, scale_of, start_of, Roomy, reach, covered_at, proved_cells, hash_from, key_of, bucket_of, before_of, Placed, Start, Member, Covers, Keeps, linked_in, Entered, Unlinked, Blank, BlankIndex, Target, Spotted, Marked}
-use Rattle.nogoods.specs.declared.store.Found.TheVariants.{At, Nothing}
+use Rattle.nogoods.specs.Index.{fixed_cells, cells_per_chain, most_scale, scale_of, start_of, Roomy, reach, covered_at, proved_cells, hash_from, key_of, bucket_of, before_of, entry_of, Placed, Start, Member, Covers, Keeps, linked_in, Entered, Unlinked, Blank, BlankIndex, Target, Spotted, Marked}
 use Rattle.nogoods.specs.declared.chains.Spot.{Spot}
-use Rattle.nogoods.specs.declared.chains.Spot.TheVariants.{Here}
+use Rattle.std.specs.declared.option.Option.{Option}
+use Rattle.std.specs.declared.option.Option.TheVariants.{Some, None}
 use Rattle.nogoods.proofs.Live.{stored-size, by_answer, target-alive, killed-nil, killed-here, killed-on}
 use Rattle.nogoods.proofs.Recorded.{Originated, AtRecord, at-record, used-words, Rest}
 
@@ -157,10 +158,6 @@ scale-room n h = omega arith
 pub roomy : (index : List ℕ) (sc : ℕ) → sc ≡ scale_of (length index) → 0 < sc → Roomy sc index
 roomy index sc e h = rw e (omega (arith, scale-room (length index) (rw e at h)), scale-most (length index))
 
-pub start-within : (n : ℕ) → start_of n ≤ n
-unfolding start_of
-start-within n = omega arith
-
 -- the cells before the search's that there are
 start-cells : (n j : ℕ) → j < proved_cells (scale_of n) → j < n → j < start_of n
 unfolding start_of
@@ -186,6 +183,16 @@ all-cells index sc e f j h = elim (below? j (length index)) [
   | inl k ↦ f j (start-cells (length index) j (rw e at h) k)
   | inr k ↦ outside index j k
 ]
+
+-- the cells before the search's become 0
+pub blank-front : (index : List ℕ) (end : ℕ) → end ≡ start_of (length index) → end ≤ length index → (ys : List ℕ) → length ys ≡ length (take end index)
+    → ys ≡ replicate (length (take end index)) 0 → Blank (scale_of (length index)) (ys ++ drop end index)
+blank-front index end e h ys n z =
+    let a : length ys ≡ end = n ∙ length-take-le end index h in
+    let same : length (ys ++ drop end index) ≡ length index = simp (length-append, length-drop) (omega arith) in
+    all-cells (ys ++ drop end index) _ (ap scale_of (sym same)) (λ j k.
+    get_or_append_left ys (drop end index) 0 j (omega (arith, ap start_of same))
+    ∙ ap (λ (l : List ℕ). get_or l j 0) z ∙ padded 0 [] (length (take end index)) j)
 
 -- the cells before the search's
 abbrev pub Same : ℕ → List ℕ → List ℕ → Type 0
@@ -459,72 +466,97 @@ module _ {store : List ℤ} {index : List ℕ} {used : ℕ} {stored : List Store
 pub target-member : (sc : ℕ) (es : List Stored) (L : List ℤ) (x : ℕ) → Target es L x → Member sc es x (key_of sc L)
 target-member sc es L x (e, p, w) = let a = target-alive L e w in (e, p, ap (key_of sc) (if-true (same_list-decides e.literals L) a.1), a.0)
 
+-- The walk's end
+
+-- the entry that leads to what a walk found, and what led to it; 0 where nothing was found
+abbrev pub found_entry : Option Spot → ℕ
+found_entry None = 0
+found_entry (Some s) = suc s.place
+
+abbrev pub found_over : Option Spot → ℕ
+found_over None = 0
+found_over (Some s) = entry_of s.over
+
+module _ {store : List ℤ} {index : List ℕ} {used : ℕ} {stored : List Stored} (K : Keeps store index used stored) (L : List ℤ) where
+  -- what a walk to the chain's end found is the oldest
+  pub walk-over : (t : Option Spot) (last : ℕ)
+      → Walking (Member K.scale (front K)) (Start K.scale (front K)) (bucket_of index) (before_of K.scale index)
+      (Target (front K) L) (key_of K.scale L) (found_entry t) (found_over t) last 0
+      → Spotted K.scale (front K) L index t
+  walk-over None last w = λ y t. elim (w.seen y (target-member K.scale (front K) L y t) t) [ inl h ↦ omega arith | inr h ↦ omega (arith, h.0) ]
+  walk-over (Some s) last w =
+      let g = w.good s.place refl in (
+        g.1,
+        λ y t. elim (w.seen y (target-member K.scale (front K) L y t) t) [ inl h ↦ absurd (omega arith) | inr h ↦ omega (arith, h.1) ],
+        g.2,
+      )
+
 -- The oldest with the literals
 
 module _ (L : List ℤ) where
   abbrev TargetFrom : ℕ → List Stored → ℕ → Type 0
   TargetFrom i es x = (e : Stored) × Placed i es x e × (is_target L e ≡ true)
 
-  oldest-from : (i : ℕ) (es : List Stored) (x : ℕ) → TargetFrom i es x → ((y : ℕ) → TargetFrom i es y → x ≤ y) → found_at i L es ≡ At x
+  oldest-from : (i : ℕ) (es : List Stored) (x : ℕ) → TargetFrom i es x → ((y : ℕ) → TargetFrom i es y → x ≤ y) → found_at i L es ≡ Some x
   oldest-from i [] x (e, p, w) f = absurd p
   oldest-from i (g ∷ es) x (e, p, w) f = by (is_target L g) refl (λ t k. oldest-from (past i g) es x t k) p
     where
       by : (b : Bool) → is_target L g ≡ b
-          → (TargetFrom (past i g) es x → ((y : ℕ) → TargetFrom (past i g) es y → x ≤ y) → found_at (past i g) L es ≡ At x)
-          → Placed i (g ∷ es) x e → cond b (At i) (found_at (past i g) L es) ≡ At x
+          → (TargetFrom (past i g) es x → ((y : ℕ) → TargetFrom (past i g) es y → x ≤ y) → found_at (past i g) L es ≡ Some x)
+          → Placed i (g ∷ es) x e → cond b (Some i) (found_at (past i g) L es) ≡ Some x
       by true q r p =
           let l = f i (g, inl (refl, refl), q) in
           let a = above i (g ∷ es) x e p in
-          let z : i ≡ x = omega (arith, a.0) in ap At z
+          let z : i ≡ x = omega (arith, a.0) in ap Some z
       by false q r (inl (z, k)) = absurd (true≢false (sym w ∙ ap (is_target L) (sym k) ∙ q))
       by false q r (inr p) = r (e, p, w) (λ y t. f y (t.0, inr t.1, t.2))
 
-  none_from : (i : ℕ) (es : List Stored) → ((y : ℕ) → ¬ TargetFrom i es y) → found_at i L es ≡ Nothing
+  none_from : (i : ℕ) (es : List Stored) → ((y : ℕ) → ¬ TargetFrom i es y) → found_at i L es ≡ None
   none_from i [] f = refl
   none_from i (g ∷ es) f = by (is_target L g) refl (none_from (past i g) es (λ y t. f y (t.0, inr t.1, t.2)))
     where
-      by : (b : Bool) → is_target L g ≡ b → found_at (past i g) L es ≡ Nothing → cond b (At i) (found_at (past i g) L es) ≡ Nothing
+      by : (b : Bool) → is_target L g ≡ b → found_at (past i g) L es ≡ None → cond b (Some i) (found_at (past i g) L es) ≡ None
       by true q r = absurd (f i (g, inl (refl, refl), q))
       by false q r = r
 
   -- the list was found in front of others
-  found_left : (i x : ℕ) (es back : List Stored) → found_at i L es ≡ At x → found_at i L (es ++ back) ≡ At x
+  found_left : (i x : ℕ) (es back : List Stored) → found_at i L es ≡ Some x → found_at i L (es ++ back) ≡ Some x
   found_left i x [] back k = absurd (let z : ◌≡◌ {A = ℕ} 0 1 = cc in omega arith)
   found_left i x (g ∷ es) back k = by (is_target L g) (λ h. found_left (past i g) x es back h) k
     where
-      by : (b : Bool) → (found_at (past i g) L es ≡ At x → found_at (past i g) L (es ++ back) ≡ At x)
-          → cond b (At i) (found_at (past i g) L es) ≡ At x → cond b (At i) (found_at (past i g) L (es ++ back)) ≡ At x
+      by : (b : Bool) → (found_at (past i g) L es ≡ Some x → found_at (past i g) L (es ++ back) ≡ Some x)
+          → cond b (Some i) (found_at (past i g) L es) ≡ Some x → cond b (Some i) (found_at (past i g) L (es ++ back)) ≡ Some x
       by true r h = h
       by false r h = r h
 
-  killed-left : (i x : ℕ) (es back : List Stored) → found_at i L es ≡ At x → killed L (es ++ back) ≡ killed L es ++ back
+  killed-left : (i x : ℕ) (es back : List Stored) → found_at i L es ≡ Some x → killed L (es ++ back) ≡ killed L es ++ back
   killed-left i x [] back k = absurd (let z : ◌≡◌ {A = ℕ} 0 1 = cc in omega arith)
   killed-left i x (g ∷ es) back k = by (is_target L g) refl (λ h. killed-left (past i g) x es back h) k
     where
-      by : (b : Bool) → is_target L g ≡ b → (found_at (past i g) L es ≡ At x → killed L (es ++ back) ≡ killed L es ++ back)
-          → cond b (At i) (found_at (past i g) L es) ≡ At x → killed L (g ∷ (es ++ back)) ≡ killed L (g ∷ es) ++ back
+      by : (b : Bool) → is_target L g ≡ b → (found_at (past i g) L es ≡ Some x → killed L (es ++ back) ≡ killed L es ++ back)
+          → cond b (Some i) (found_at (past i g) L es) ≡ Some x → killed L (g ∷ (es ++ back)) ≡ killed L (g ∷ es) ++ back
       by true q r h = killed-here L g (es ++ back) q ∙ sym (ap (λ (l : List Stored). l ++ back) (killed-here L g es q))
       by false q r h = killed-on L g (es ++ back) q ∙ ap (λ (l : List Stored). g ∷ l) (r h) ∙ sym (ap (λ (l : List Stored). l ++ back) (killed-on L g es q))
 
   -- it was not
-  found_right : (i : ℕ) (es back : List Stored) → found_at i L es ≡ Nothing → found_at i L (es ++ back) ≡ found_at (i + length (words_of es)) L back
+  found_right : (i : ℕ) (es back : List Stored) → found_at i L es ≡ None → found_at i L (es ++ back) ≡ found_at (i + length (words_of es)) L back
   found_right i [] back k = let z : i + 0 ≡ i = omega arith in rw z refl
   found_right i (g ∷ es) back k = by (is_target L g) (λ h. found_right (past i g) es back h) k
     where
       n : past i g + length (words_of es) ≡ i + length (words_of (g ∷ es))
       n = omega (arith, words_size g es)
 
-      by : (b : Bool) → (found_at (past i g) L es ≡ Nothing → found_at (past i g) L (es ++ back) ≡ found_at (past i g + length (words_of es)) L back)
-          → cond b (At i) (found_at (past i g) L es) ≡ Nothing → cond b (At i) (found_at (past i g) L (es ++ back)) ≡ found_at (i + length (words_of (g ∷ es))) L back
+      by : (b : Bool) → (found_at (past i g) L es ≡ None → found_at (past i g) L (es ++ back) ≡ found_at (past i g + length (words_of es)) L back)
+          → cond b (Some i) (found_at (past i g) L es) ≡ None → cond b (Some i) (found_at (past i g) L (es ++ back)) ≡ found_at (i + length (words_of (g ∷ es))) L back
       by true r h = absurd (let z : ◌≡◌ {A = ℕ} 0 1 = cc in omega arith)
       by false r h = r h ∙ ap (λ (m : ℕ). found_at m L back) n
 
-  killed-right : (i : ℕ) (es back : List Stored) → found_at i L es ≡ Nothing → killed L (es ++ back) ≡ es ++ killed L back
+  killed-right : (i : ℕ) (es back : List Stored) → found_at i L es ≡ None → killed L (es ++ back) ≡ es ++ killed L back
   killed-right i [] back k = refl
   killed-right i (g ∷ es) back k = by (is_target L g) refl (λ h. killed-right (past i g) es back h) k
     where
-      by : (b : Bool) → is_target L g ≡ b → (found_at (past i g) L es ≡ Nothing → killed L (es ++ back) ≡ es ++ killed L back)
-          → cond b (At i) (found_at (past i g) L es) ≡ Nothing → killed L (g ∷ (es ++ back)) ≡ g ∷ (es ++ killed L back)
+      by : (b : Bool) → is_target L g ≡ b → (found_at (past i g) L es ≡ None → killed L (es ++ back) ≡ es ++ killed L back)
+          → cond b (Some i) (found_at (past i g) L es) ≡ None → killed L (g ∷ (es ++ back)) ≡ g ∷ (es ++ killed L back)
       by true q r h = absurd (let z : ◌≡◌ {A = ℕ} 0 1 = cc in omega arith)
       by false q r h = killed-on L g (es ++ back) q ∙ ap (λ (l : List Stored). g ∷ l) (r h)
 
@@ -561,16 +593,16 @@ module _ (L : List ℤ) where
       there r (inl (z, k)) = (g, inl (z, refl), ap (λ (s : Stored). s.literals) k)
       there r (inr p) = let t = r p in (t.0, inr t.1, t.2)
 
-  found-above : (i x : ℕ) (es : List Stored) → found_at i L es ≡ At x → i ≤ x
+  found-above : (i x : ℕ) (es : List Stored) → found_at i L es ≡ Some x → i ≤ x
   found-above i x [] k = absurd (let z : ◌≡◌ {A = ℕ} 0 1 = cc in omega arith)
   found-above i x (g ∷ es) k = by (is_target L g) (λ h. found-above (past i g) x es h) k
     where
-      by : (b : Bool) → (found_at (past i g) L es ≡ At x → past i g ≤ x) → cond b (At i) (found_at (past i g) L es) ≡ At x → i ≤ x
+      by : (b : Bool) → (found_at (past i g) L es ≡ Some x → past i g ≤ x) → cond b (Some i) (found_at (past i g) L es) ≡ Some x → i ≤ x
       by true r h = let z : i ≡ x = cc in omega arith
       by false r h = omega (arith, r h)
 
   -- the one that was found is dead
-  dead-now : (i x : ℕ) (es : List Stored) → found_at i L es ≡ At x → (f : Stored) → Placed i (killed L es) x f → f.dead ≡ false → ⊥
+  dead-now : (i x : ℕ) (es : List Stored) → found_at i L es ≡ Some x → (f : Stored) → Placed i (killed L es) x f → f.dead ≡ false → ⊥
   dead-now i x [] k f p a = absurd (let z : ◌≡◌ {A = ℕ} 0 1 = cc in omega arith)
   dead-now i x (g ∷ es) k f p a = by (is_target L g) refl (λ h u. dead-now (past i g) x es h f u a) k
     where
@@ -578,12 +610,12 @@ module _ (L : List ℤ) where
       here z (inl (y, q)) = true≢false (ap (λ (s : Stored). s.dead) q ∙ a)
       here z (inr p) = let u = above (past i g) es x f p in omega (arith, u.0)
 
-      there : (found_at (past i g) L es ≡ At x → Placed (past i g) (killed L es) x f → ⊥) → found_at (past i g) L es ≡ At x → Placed i (g ∷ killed L es) x f → ⊥
+      there : (found_at (past i g) L es ≡ Some x → Placed (past i g) (killed L es) x f → ⊥) → found_at (past i g) L es ≡ Some x → Placed i (g ∷ killed L es) x f → ⊥
       there r h (inl (y, q)) = omega (arith, found-above (past i g) x es h)
       there r h (inr p) = r h p
 
-      by : (b : Bool) → is_target L g ≡ b → (found_at (past i g) L es ≡ At x → Placed (past i g) (killed L es) x f → ⊥)
-          → cond b (At i) (found_at (past i g) L es) ≡ At x → ⊥
+      by : (b : Bool) → is_target L g ≡ b → (found_at (past i g) L es ≡ Some x → Placed (past i g) (killed L es) x f → ⊥)
+          → cond b (Some i) (found_at (past i g) L es) ≡ Some x → ⊥
       by true q r h = let z : i ≡ x = cc in here z (rw (killed-here L g es q) at p)
       by false q r h = there r h (rw (killed-on L g es q) at p)
 
@@ -607,7 +639,7 @@ module _ (L : List ℤ) where
       starts→ : (x k : ℕ) → Start sc (killed L es) x k → Start sc es x k
       starts→ x k (f, p, h) = let t = killed→ 0 es x f p in (t.0, t.1, ap (key_of sc) t.2 ∙ h)
 
-  killed-gone : (sc : ℕ) (es : List Stored) (x : ℕ) → found_at 0 L es ≡ At x → (k : ℕ) → ¬ Member sc (killed L es) x k
+  killed-gone : (sc : ℕ) (es : List Stored) (x : ℕ) → found_at 0 L es ≡ Some x → (k : ℕ) → ¬ Member sc (killed L es) x k
   killed-gone sc es x h k (f, p, e, a) = dead-now 0 x es h f p a
 
   module _ {store : List ℤ} {index : List ℕ} {used : ℕ} {stored : List Stored} (K : Keeps store index used stored) where
@@ -636,11 +668,17 @@ module _ (L : List ℤ) where
     }
 
     -- one in front
-    module _ (x over : ℕ) (t : Spotted K.scale C.front L index (Here x over)) where
-      in-front : found_at 0 L C.front ≡ At x
+    module _ (s : Spot) (t : Spotted K.scale C.front L index (Some s)) where
+      abbrev x : ℕ
+      x = s.place
+
+      abbrev over : ℕ
+      over = entry_of s.over
+
+      in-front : found_at 0 L C.front ≡ Some x
       in-front = oldest-from 0 C.front x t.0 t.1
 
-      pub near-found : found_at 0 L stored ≡ At x
+      pub near-found : found_at 0 L stored ≡ Some x
       near-found = ap (found_at 0 L) C.parts ∙ found_left 0 x C.front C.back in-front
 
       pub near-start : Start K.scale C.front x (key_of K.scale L)
@@ -673,9 +711,6 @@ module _ (L : List ℤ) where
             (unlinked-first dead x (killed-gone K.scale C.front x in-front) {bucket' = bucket_of (set index h (before_of K.scale index x))} h hb (t.2.0 z) (key-changed K.scale index h (before_of K.scale index x) (omega (arith, room, hb))))
             (λ k b. refl)
             (λ j b. ap (λ (m : ℕ). m - 1) (unchanged index K.scale (reach K.scale) h (before_of K.scale index x) (inl hb) j b)))
-
-        start_cell : (j : ℕ) → K.scale ≤ j → get_or index' j 0 ≡ get_or index j 0
-        start_cell j b = rw is (get_or-set_other index h j (before_of K.scale index x) 0 (λ e. omega (arith, hb)))
 
       -- or where it is another place
       module _ (index' : List ℕ) (y : ℕ) (z : over ≡ suc y) (is : index' ≡ set index (K.scale + y) (get_or index (K.scale + x) 0)) where
@@ -758,5 +793,5 @@ skipped {store} {used} {from} {L} {stored} H S =
     }
 
 -- what a walk said, by cases
-pub spotted : (sc : ℕ) (front : List Stored) (L : List ℤ) (index : List ℕ) (r t : Spot) → r ≡ t → Spotted sc front L index r → Spotted sc front L index t
+pub spotted : (sc : ℕ) (front : List Stored) (L : List ℤ) (index : List ℕ) (r t : Option Spot) → r ≡ t → Spotted sc front L index r → Spotted sc front L index t
 spotted sc front L index r t e k = rw e at k

@@ -20,9 +20,6 @@ use Rattle.nogoods.proofs.Live.{stored-size}
 
 -- The header
 
-pub header-size : (e : Stored) → length (record_header e) ≡ header_size
-header-size e = refl
-
 -- of the literals a header has the count alone
 pub header-same : (n : ℕ) (g h : List ℤ) → length g ≡ length h → record_header (record_of n g) ≡ record_header (record_of n h)
 header-same n g h e = rw e

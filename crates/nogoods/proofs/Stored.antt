@@ -7,7 +7,7 @@ use mathlib.Core.List.Memᴰ
 use mathlib.Core.List.{List, [], ◌∷◌, ◌++◌, append_assoc}
 use Prim.Native.Nat.{ℕ, ◌+◌, ◌-◌, ◌≤◌, ◌<◌}
 use native.Mathlib.Omega.{arith}
-use borrow.Author.Tests.{le-leb, lt-leb}
+use borrow.Author.Tests.{lt-leb}
 use lib.Dec.{leb, leb→le}
 use lib.IntN.{ℤ, pos, neg_ℤ}
 use lib.ListN.{length, take, drop, get_or, set, replicate, length-append, length-replicate}
@@ -21,7 +21,7 @@ use Rattle.words.proofs.Parts.{put_next}
 use Rattle.nogoods.specs.Store.{Stored, record_of, added_in, live, closed, killed, dead_of, is_target, origin_word, kept_for, kept_with, stored_words, record_size, words_of, words_for}
 use Rattle.nogoods.specs.Keeps.{WrittenFront, Literals, Holds}
 use Rattle.nogoods.specs.Finds.{found_at}
-use Rattle.nogoods.specs.declared.store.Found.TheVariants.{At, Nothing}
+use Rattle.std.specs.declared.option.Option.TheVariants.{Some, None}
 use Rattle.nogoods.specs.Records.{dead_at, end_at}
 use Rattle.nogoods.proofs.Live.{stored-size, words-for, closed-append, closed-twice, killed-nil, killed-here, killed-on, target-alive}
 use Rattle.nogoods.proofs.Recorded.{Originated, at-record}
@@ -52,9 +52,6 @@ written_next a b before s ys at n w v =
 -- What is kept for more words: all, where they fit; or what is live
 
 module _ {store : List ℤ} {used : ℕ} {stored : List Stored} (H : Holds store used stored) (size : ℕ) where
-  pub kept-all : size ≤ length store - used → kept_for (length store) size stored ≡ stored
-  kept-all h = rw (le-leb (length (words_of stored) + size) (length store) (omega (arith, H.extent, H.fits)))
-
   pub kept-live : length store - used < size → kept_for (length store) size stored ≡ closed stored
   kept-live h = rw (lt-leb (length (words_of stored) + size) (length store) (omega (arith, H.extent, H.fits)))
 
@@ -111,13 +108,13 @@ pub record Hit (i j : ℕ) (L : List ℤ) (stored : List Stored) : Type 0 where
   pub place : i + length (words_of done) ≡ j
   pub gone : killed L stored ≡ done ++ (dead_of it ∷ rest)
 
-pub hit : (i j : ℕ) (L : List ℤ) (stored : List Stored) → found_at i L stored ≡ At j → Hit i j L stored
+pub hit : (i j : ℕ) (L : List ℤ) (stored : List Stored) → found_at i L stored ≡ Some j → Hit i j L stored
 hit i j L [] e = absurd (let z : ◌≡◌ {A = ℕ} 0 1 = cc in omega arith)
 hit i j L (x ∷ xs) e = by (is_target L x) refl (λ h. hit (i + record_size x.literals) j L xs h) e
   where
     by : (b : Bool) → is_target L x ≡ b
-        → (found_at (i + record_size x.literals) L xs ≡ At j → Hit (i + record_size x.literals) j L xs)
-        → cond b (At i) (found_at (i + record_size x.literals) L xs) ≡ At j → Hit i j L (x ∷ xs)
+        → (found_at (i + record_size x.literals) L xs ≡ Some j → Hit (i + record_size x.literals) j L xs)
+        → cond b (Some i) (found_at (i + record_size x.literals) L xs) ≡ Some j → Hit i j L (x ∷ xs)
     by true q r h =
         let z : i ≡ j = cc in
         record { done = []; it = x; rest = xs; alive = (target-alive L x q).0; is = refl; place = omega arith; gone = killed-here L x xs q }
@@ -134,13 +131,13 @@ hit i j L (x ∷ xs) e = by (is_target L x) refl (λ h. hit (i + record_size x.l
         }
 
 -- nothing is found: nothing is marked
-pub miss : (i : ℕ) (L : List ℤ) (stored : List Stored) → found_at i L stored ≡ Nothing → killed L stored ≡ stored
+pub miss : (i : ℕ) (L : List ℤ) (stored : List Stored) → found_at i L stored ≡ None → killed L stored ≡ stored
 miss i L [] e = killed-nil L
 miss i L (x ∷ xs) e = by (is_target L x) refl (λ h. miss (i + record_size x.literals) L xs h) e
   where
     by : (b : Bool) → is_target L x ≡ b
-        → (found_at (i + record_size x.literals) L xs ≡ Nothing → killed L xs ≡ xs)
-        → cond b (At i) (found_at (i + record_size x.literals) L xs) ≡ Nothing → killed L (x ∷ xs) ≡ x ∷ xs
+        → (found_at (i + record_size x.literals) L xs ≡ None → killed L xs ≡ xs)
+        → cond b (Some i) (found_at (i + record_size x.literals) L xs) ≡ None → killed L (x ∷ xs) ≡ x ∷ xs
     by true q r h = absurd (let z : ◌≡◌ {A = ℕ} 0 1 = cc in omega arith)
     by false q r h = killed-on L x xs q ∙ ap (λ (l : List Stored). x ∷ l) (r h)
 

@@ -2,17 +2,14 @@
 -- far as they were entered. The later cells belong to the search for a conflict, and nothing is said of them. Zeros are an index of any store.
 -- No reader of a public contract needs it.
 -- Assumes nothing.
-use Rattle.std.specs.Prelude.{◌≡◌, ◌⊎◌, true, false, cond, List, [], ◌∷◌, ◌++◌, ℕ, suc, ◌+◌, ◌*◌, ◌-◌, ◌/◌, ◌%◌, ◌≤◌, ◌<◌, min, ℤ, pos, length, get_or, set}
+use Rattle.std.specs.Prelude.{◌≡◌, ◌⊎◌, true, false, cond, Option, Some, None, List, [], ◌∷◌, ◌++◌, ℕ, suc, ◌+◌, ◌*◌, ◌-◌, ◌/◌, ◌%◌, ◌≤◌, ◌<◌, min, ℤ, pos, length, get_or, set}
 use Rattle.std.specs.Int.Signed.{lt_z}
 use Rattle.words.specs.Literals.{variable}
 use Rattle.words.specs.Descending.{Descends, Leads}
 use Rattle.nogoods.specs.Store.{Stored, live, is_target, record_size, words_of, words_for}
 use Rattle.nogoods.specs.Keeps.{Holds}
 use Rattle.nogoods.specs.Records.{Stands}
-use Rattle.nogoods.specs.declared.store.Added.{Added}
-use Rattle.nogoods.specs.declared.store.Added.TheVariants.{Uses, Full}
 use Rattle.nogoods.specs.declared.chains.Spot.{Spot}
-use Rattle.nogoods.specs.declared.chains.Spot.TheVariants.{Here, Nowhere}
 
 -- An index of n cells has a scale m: m chains, and 8 m words of the store that they reach, of a cell each; then the cell that says how many words were
 -- entered; then the search's, 49,286 and two for each word that is reached. With fewer cells than that for m = 1 the scale is 0, and nothing is reached.
@@ -102,11 +99,16 @@ pub record Keeps (store : List ℤ) (index : List ℕ) (used : ℕ) (stored : Li
   pub covers : Covers scale index (get_or index (covered_at scale) 0) stored
 
 -- "Do the live words after the step fit the store?", with these stored then: the store holds them, or is too short
-abbrev pub Fits : List Stored → List ℤ → List ℕ → Added → Type 0
-Fits stored store index (Uses n) = Keeps store index n stored
-Fits stored store index Full = length store < words_for (live stored)
+abbrev pub Fits : List Stored → List ℤ → List ℕ → Option ℕ → Type 0
+Fits stored store index (Some n) = Keeps store index n stored
+Fits stored store index None = length store < words_for (live stored)
 
 -- What the private functions say
+
+-- the chain's entry that leads to a place, or its end
+abbrev pub entry_of : Option ℕ → ℕ
+entry_of None = 0
+entry_of (Some x) = suc x
 
 -- the place x on top of the chain of h
 abbrev pub linked_in : ℕ → List ℕ → ℕ → ℕ → List ℕ
@@ -133,10 +135,11 @@ abbrev pub Target : List Stored → List ℤ → ℕ → Type 0
 Target stored L x = (e : Stored) × Placed 0 stored x e × (is_target L e ≡ true)
 
 -- what a walk along the chain of the literals says: the oldest, and what led to it; or that there is none
-abbrev pub Spotted : ℕ → List Stored → List ℤ → List ℕ → Spot → Type 0
-Spotted m front L index (Here x over) =
-    Target front L x × ((y : ℕ) → Target front L y → x ≤ y) × Leads (Start m front) (bucket_of index) (before_of m index) (key_of m L) over x
-Spotted m front L index Nowhere = (y : ℕ) → ¬ Target front L y
+abbrev pub Spotted : ℕ → List Stored → List ℤ → List ℕ → Option Spot → Type 0
+Spotted m front L index (Some s) =
+    Target front L s.place × ((y : ℕ) → Target front L y → s.place ≤ y)
+    × Leads (Start m front) (bucket_of index) (before_of m index) (key_of m L) (entry_of s.over) s.place
+Spotted m front L index None = (y : ℕ) → ¬ Target front L y
 
 -- each mark is at the start of a record
 abbrev pub Marked : ℕ → List ℤ → List ℕ → Type 0

@@ -3,7 +3,7 @@
 ghost use Rattle.std.specs.Prelude.{◌≡◌, List, ℕ, ◌+◌, ◌-◌, ◌≤◌, ◌<◌, length, get_or};
 ghost use Rattle.nogoods.specs.Store.{Stored, is_target};
 ghost use Rattle.nogoods.specs.Records.{end_at, nogood_at, stored_at};
-ghost use Rattle.nogoods.specs.Index.{scale_of, start_of, most_scale, lent_cells, Roomy, reach, covered_at, hashes, mixed, hash_from, key_of, before_of, linked_in, Entered, Unlinked, Keeps, Spotted, Blank};
+ghost use Rattle.nogoods.specs.Index.{scale_of, start_of, most_scale, lent_cells, Roomy, reach, covered_at, hashes, mixed, hash_from, key_of, before_of, entry_of, linked_in, Entered, Unlinked, Keeps, Spotted, Blank};
 
 use crate::{LENT_CELLS, LENT_REACH, records};
 
@@ -25,11 +25,11 @@ pub const WORDS: usize = 8;
 // As many cells there are for each chain before the search's.
 pub const PROVED: usize = 9;
 
-// Where the oldest live nogood with some literals starts, with the chain's entry that led to it, 0 for its first.
-#[derive(Drop)]
-pub enum Spot {
-    Here(usize, usize),
-    Nowhere,
+// Where the oldest live nogood with some literals starts, with the place before it in its chain, where it is not the chain's first.
+#[derive(Clone, Copy, PartialEq, Eq)]
+pub struct Spot {
+    pub place: usize,
+    pub over: Option<usize>,
 }
 
 // The scale of an index of so many cells: how many chains there are.
@@ -37,11 +37,7 @@ pub fn scale_of(n: usize) -> usize
     ensures value { result ≡ scale_of n }
     ensures upper_bound { result ≤ most_scale }
 {
-    if n < FIXED_CELLS {
-        return 0;
-    }
-    let m = (n - FIXED_CELLS) / CELLS_PER_CHAIN;
-    if m < MOST_SCALE { m } else { MOST_SCALE }
+    (n.saturating_sub(FIXED_CELLS) / CELLS_PER_CHAIN).min(MOST_SCALE)
 }
 
 // Where the search's cells begin in an index of so many.
@@ -49,8 +45,7 @@ pub fn start_of(n: usize) -> usize
     ensures value { result ≡ start_of n }
     ensures upper_bound { result ≤ n }
 {
-    let at = PROVED * scale_of(n) + 1;
-    if at < n { at } else { n }
+    (PROVED * scale_of(n) + 1).min(n)
 }
 
 // As many of the cells that are lent as reach a store of so many words. That many reach it is not promised: it decides time alone.
@@ -70,12 +65,7 @@ fn mix(h: usize, word: i32) -> usize
     ensures value { result ≡ mixed h word }
     ensures upper_bound { result < hashes }
 {
-    let v = words::variable_of(word);
-    if word < 0 {
-        (h * 1664525 + 2 * v + 1) % HASHES
-    } else {
-        (h * 1664525 + 2 * v + 0) % HASHES
-    }
+    (h * 1664525 + 2 * words::variable_of(word) + usize::from(word < 0)) % HASHES
 }
 
 // The hash of a list of literals.
@@ -83,10 +73,8 @@ fn hash_of(literals: &[i32]) -> usize
     ensures { result ≡ hash_from 0 literals.now }
 {
     let mut h = 0;
-    let mut i = 0;
-    while i < literals.len() {
-        h = mix(h, literals[i]);
-        i += 1;
+    for word in literals {
+        h = mix(h, *word);
     }
     h
 }
@@ -114,11 +102,9 @@ fn link(index: &mut [u32], m: usize, x: usize, h: usize)
 pub fn covered(index: &[u32]) -> usize
     ensures { result ≡ get_or index.now (covered_at (scale_of (length index.now))) 0 }
 {
-    let at = PROVED * scale_of(index.len());
-    if at < index.len() {
-        index[at] as usize
-    } else {
-        0
+    match index.get(PROVED * scale_of(index.len())) {
+        Some(cell) => *cell as usize,
+        None => 0,
     }
 }
 
@@ -140,6 +126,7 @@ pub fn cover(store: &[i32], used: usize, index: &mut [u32])
         → Keeps store.now index.new used stored }
 {
     let m = scale_of(index.len());
+    // Each record says where the next begins: a walk along records, and no loop over an index.
     let mut r = covered(index);
     while r < used {
         let end = records::end_at(store, r);
@@ -156,8 +143,17 @@ fn entry_after(index: &[u32], m: usize, x: usize) -> u32
     requires { Roomy m index.now × (x < reach m) }
     ensures { result ≡ before_of m index.now x }
 {
-    let cell = index[m + x];
-    if cell == 0 { 0 } else { cell - 1 }
+    index[m + x].saturating_sub(1)
+}
+
+// The place that a chain's entry leads to, if it is not the chain's end.
+fn place_of(entry: u32) -> Option<usize>
+    ensures { entry_of result ≡ entry }
+{
+    if entry == 0 {
+        return None;
+    }
+    Some(entry as usize - 1)
 }
 
 // The record at i is that of a live nogood that is the list of literals.
@@ -165,51 +161,44 @@ pub fn is_target(store: &[i32], i: usize, literals: &[i32]) -> bool
     requires { end_at store.now i ≤ length store.now }
     ensures { result ≡ is_target literals.now (stored_at store.now i) }
 {
-    if records::is_dead(store, i) {
-        return false;
-    }
-    words::is_same_list(records::nogood_at(store, i), literals)
+    !records::is_dead(store, i) && words::is_same_list(records::nogood_at(store, i), literals)
 }
 
 // The chain of the literals to its end: the last that is live and has them is the oldest.
-pub fn walk(store: &[i32], used: usize, index: &[u32], literals: &[i32]) -> Spot
+pub fn walk(store: &[i32], used: usize, index: &[u32], literals: &[i32]) -> Option<Spot>
     requires { (stored : List Stored) × Keeps store.now index.now used stored }
     ensures { (stored : List Stored) (K : Keeps store.now index.now used stored)
         → Spotted K.scale K.covers.front literals.now index.now result }
 {
     let m = scale_of(index.len());
     if m == 0 {
-        return Spot::Nowhere;
+        return None;
     }
-    let mut found = 0;
-    let mut over = 0;
-    let mut last = 0;
-    let mut p = index[key_of(literals, m)] as usize;
-    while p != 0 {
-        let x = p - 1;
-        let from = last;
-        last = p;
-        p = entry_after(index, m, x) as usize;
-        if is_target(store, x, literals) {
-            found = last;
-            over = from;
+    let mut found = None;
+    let mut over = None;
+    let mut next = place_of(index[key_of(literals, m)]);
+    while let Some(place) = next {
+        if is_target(store, place, literals) {
+            found = Some(Spot { place, over });
         }
+        over = next;
+        next = place_of(entry_after(index, m, place));
     }
-    if found == 0 {
-        return Spot::Nowhere;
-    }
-    Spot::Here(found - 1, over)
+    found
 }
 
 // The place x goes out of the chain of h: what led to it leads past it.
-pub fn unlink(index: &mut [u32], m: usize, h: usize, x: usize, over: usize)
-    requires { Roomy m index.old × (h < m) × (x < reach m) × (over ≤ reach m) }
-    ensures { Unlinked m index.old index.new h x over }
+pub fn unlink(index: &mut [u32], m: usize, h: usize, x: usize, over: Option<usize>)
+    requires { Roomy m index.old × (h < m) × (x < reach m) × (entry_of over ≤ reach m) }
+    ensures { Unlinked m index.old index.new h x (entry_of over) }
 {
-    if over == 0 {
-        index[h] = entry_after(index, m, x);
-    } else {
-        index[m + over - 1] = index[m + x];
+    match over {
+        None => {
+            index[h] = entry_after(index, m, x);
+        }
+        Some(y) => {
+            index[m + y] = index[m + x];
+        }
     }
 }
 
@@ -218,9 +207,5 @@ pub fn clear(index: &mut [u32])
     ensures { Blank (scale_of (length index.old)) index.new }
 {
     let end = start_of(index.len());
-    let mut i = 0;
-    while i < end {
-        index[i] = 0;
-        i += 1;
-    }
+    index[..end].fill(0);
 }

@@ -11,7 +11,6 @@ ghost use Rattle.nogoods.specs.Definitions.{pair, pair_size, defined, defined_si
 
 use crate::records::HEADER;
 use crate::store;
-use crate::store::Added;
 
 // As many words the record of two literals has.
 const PAIR: usize = HEADER + 2;
@@ -35,12 +34,8 @@ fn write_pairs(free: &mut [i32], origin: usize, name: i32, literals: &[i32])
     ensures { WrittenFront (words_of (added_in origin (map (pair name) literals.now)))
         free.old free.new }
 {
-    let mut at = 0;
-    let mut i = 0;
-    while i < literals.len() {
-        write_pair(&mut free[at..], origin, name, literals[i]);
-        at += PAIR;
-        i += 1;
+    for i in 0..literals.len() {
+        write_pair(&mut free[PAIR * i..], origin, name, literals[i]);
     }
 }
 
@@ -74,15 +69,15 @@ fn write_definition(free: &mut [i32], origin: usize, numbers: &mut [i32])
     write_pairs(&mut free[end..], origin, name, &numbers[1..]);
 }
 
-// The definition of a name is live, after the others. The numbers are the name and its literals; they may be left in another
-// order.
+// The definition of a name is live, after the others: how many words are used then, if the store is not too short. The numbers are
+// the name and its literals; they may be left in another order.
 pub fn append(
     store: &mut [i32],
     used: usize,
     index: &mut [u32],
     origin: usize,
     numbers: &mut [i32],
-) -> Added
+) -> Option<usize>
     requires held { (stored : List Stored) × Keeps store.old index.old used stored }
     requires origin { (1 ≤ origin) × (origin ≤ widest) }
     requires numbers { Literals numbers.old × (1 ≤ length numbers.old) × (length numbers.old ≤ most_numbers) }
@@ -94,8 +89,8 @@ pub fn append(
     let size = HEADER + numbers.len() + PAIR * (numbers.len() - 1);
     let end = store::make_room(store, used, index, size);
     if store.len() - end < size {
-        return Added::Full;
+        return None;
     }
     write_definition(&mut store[end..], origin, numbers);
-    Added::Uses(end + size)
+    Some(end + size)
 }

@@ -1,5 +1,5 @@
 // Nogoods in the store's words.
-ghost use Rattle.std.specs.Prelude.{◌≡◌, false, not, cond, ◌&&◌, List, [], ◌∷◌, ◌+◌, ◌≤◌, eqb, pos, neg_ℤ, length, get_or, set};
+ghost use Rattle.std.specs.Prelude.{◌≡◌, false, not, cond, Some, ◌&&◌, List, [], ◌∷◌, ◌+◌, ◌≤◌, eqb, pos, neg_ℤ, length, get_or, set};
 ghost use Rattle.words.specs.Limits.{largest, widest};
 ghost use Rattle.words.specs.Lists.{any};
 ghost use Rattle.aspif.specs.Rules.{is_empty};
@@ -9,25 +9,10 @@ ghost use Rattle.nogoods.specs.Records.{end_at, dead_at, count_at};
 ghost use Rattle.nogoods.specs.Moves.{MovedDown, Keeping};
 ghost use Rattle.nogoods.specs.Finds.{found_at, Skips};
 ghost use Rattle.nogoods.specs.Index.{Keeps, Fits, Spotted};
-ghost use Rattle.nogoods.specs.declared.chains.Spot.TheVariants.{Here};
 
 use crate::chains::Spot;
 use crate::records::{COUNT, HEADER};
 use crate::{chains, records};
-
-// Where a nogood stands.
-#[derive(Drop)]
-pub enum Found {
-    At(usize),
-    Nothing,
-}
-
-// What it comes to that nogoods are added: how many words are used then, or that the store is too short for them.
-#[derive(Drop)]
-pub enum Added {
-    Uses(usize),
-    Full,
-}
 
 // The words of a nogood, with the number of its step, at the front of the free tail.
 pub fn write(free: &mut [i32], origin: usize, literals: &[i32])
@@ -46,13 +31,8 @@ fn move_down(words: &mut [i32], to: usize, from: usize, n: usize)
     requires { (to ≤ from) × (from + n ≤ length words.old) }
     ensures { MovedDown to from n words.old words.new }
 {
-    if to == from {
-        return;
-    }
-    let mut k = 0;
-    while k < n {
-        words[to + k] = words[from + k];
-        k += 1;
+    if to != from {
+        words.copy_within(from..from + n, to);
     }
 }
 
@@ -76,6 +56,7 @@ pub fn close(store: &mut [i32], used: usize) -> usize
         → Holds store.new result (closed stored) }
 {
     let mut to = 0;
+    // Each record says where the next begins, here and in the loops below: a walk along records, and no loop over an index.
     let mut from = 0;
     while from < used {
         let end = records::end_at(store, from);
@@ -102,14 +83,15 @@ pub fn make_room(store: &mut [i32], used: usize, index: &mut [u32], size: usize)
     close(store, used)
 }
 
-// One more live nogood, after the others, with the number of the step that adds it.
+// One more live nogood, after the others, with the number of the step that adds it: how many words are used then, if the store is not
+// too short.
 pub fn append(
     store: &mut [i32],
     used: usize,
     index: &mut [u32],
     origin: usize,
     literals: &[i32],
-) -> Added
+) -> Option<usize>
     requires held { (stored : List Stored) × Keeps store.old index.old used stored }
     requires origin { (1 ≤ origin) × (origin ≤ widest) }
     requires literals { Literals literals.now × (length literals.now ≤ largest) }
@@ -120,14 +102,14 @@ pub fn append(
     let size = HEADER + literals.len();
     let end = make_room(store, used, index, size);
     if store.len() - end < size {
-        return Added::Full;
+        return None;
     }
     write(&mut store[end..], origin, literals);
-    Added::Uses(end + size)
+    Some(end + size)
 }
 
 // The oldest live nogood that is the list of literals, where none before a place is.
-fn find(store: &[i32], used: usize, from: usize, literals: &[i32]) -> Found
+fn find(store: &[i32], used: usize, from: usize, literals: &[i32]) -> Option<usize>
     requires { (stored : List Stored) × Holds store.now used stored × Skips from literals.now stored }
     ensures { (stored : List Stored) → Holds store.now used stored → Skips from literals.now stored
         → result ≡ found_at 0 literals.now stored }
@@ -135,11 +117,11 @@ fn find(store: &[i32], used: usize, from: usize, literals: &[i32]) -> Found
     let mut i = from;
     while i < used {
         if chains::is_target(store, i, literals) {
-            return Found::At(i);
+            return Some(i);
         }
         i = records::end_at(store, i);
     }
-    Found::Nothing
+    None
 }
 
 // The nogood at r is dead: its first word is negated.
@@ -156,34 +138,24 @@ fn delete_far(store: &mut [i32], used: usize, from: usize, literals: &[i32])
     ensures { (stored : List Stored) → Holds store.old used stored → Skips from literals.now stored
         → Holds store.new used (killed literals.now stored) }
 {
-    match find(store, used, from, literals) {
-        Found::At(i) => {
-            kill(store, i);
-        }
-        Found::Nothing => {}
+    if let Some(i) = find(store, used, from, literals) {
+        kill(store, i);
     }
 }
 
-// The nogood at x is dead, and out of its chain.
-fn delete_near(
-    store: &mut [i32],
-    used: usize,
-    index: &mut [u32],
-    literals: &[i32],
-    x: usize,
-    over: usize,
-)
+// The nogood at a spot is dead, and out of its chain.
+fn delete_near(store: &mut [i32], used: usize, index: &mut [u32], literals: &[i32], spot: Spot)
     requires { (stored : List Stored) × (K : Keeps store.old index.old used stored)
-        × Spotted K.scale K.covers.front literals.now index.old (Here x over) }
+        × Spotted K.scale K.covers.front literals.now index.old (Some spot) }
     ensures { (stored : List Stored) (K : Keeps store.old index.old used stored)
-        → Spotted K.scale K.covers.front literals.now index.old (Here x over)
+        → Spotted K.scale K.covers.front literals.now index.old (Some spot)
         → Keeps store.new index.new used (killed literals.now stored) }
 {
     let m = chains::scale_of(index.len());
-    chains::unlink(index, m, chains::key_of(literals, m), x, over);
-    kill(store, x);
+    chains::unlink(index, m, chains::key_of(literals, m), spot.place, spot.over);
+    kill(store, spot.place);
     let at = chains::start_of(index.len());
-    search::forget(x, &mut index[at..]);
+    search::forget(spot.place, &mut index[at..]);
 }
 
 // The oldest live nogood that is the list of literals is dead.
@@ -193,12 +165,9 @@ fn discard(store: &mut [i32], used: usize, index: &mut [u32], literals: &[i32])
         → Keeps store.new index.new used (killed literals.now stored) }
 {
     chains::cover(store, used, index);
-    let spot = chains::walk(store, used, index, literals);
-    match spot {
-        Spot::Here(x, over) => {
-            delete_near(store, used, index, literals, x, over);
-        }
-        Spot::Nowhere => {
+    match chains::walk(store, used, index, literals) {
+        Some(spot) => delete_near(store, used, index, literals, spot),
+        None => {
             let from = chains::covered(index);
             delete_far(store, used, from, literals);
         }
@@ -220,7 +189,7 @@ fn live_at(store: &[i32], i: usize) -> usize
     requires { end_at store.now i ≤ length store.now }
     ensures { result ≡ cond (dead_at store.now i) 0 1 }
 {
-    if records::is_dead(store, i) { 0 } else { 1 }
+    usize::from(!records::is_dead(store, i))
 }
 
 // How many nogoods are live.
@@ -242,10 +211,7 @@ fn is_empty_at(store: &[i32], i: usize) -> bool
     requires { end_at store.now i ≤ length store.now }
     ensures { result ≡ (not (dead_at store.now i) && eqb (count_at store.now i) 0) }
 {
-    if records::is_dead(store, i) {
-        return false;
-    }
-    records::count_at(store, i) == 0
+    !records::is_dead(store, i) && records::count_at(store, i) == 0
 }
 
 // The empty nogood is live.

@@ -12,17 +12,13 @@ use words::MOST_NUMBERS;
 // of numbers.
 fn say_step<P: Print>(rt: &P, answer: LineAnswer, numbers: [i32; MOST_NUMBERS]) -> io::Result<()> {
     match answer {
-        LineAnswer::Line {
-            letter,
-            count,
-            next,
-        } => {
-            saying::say_code(rt, writing::byte_of(letter) as u32)?;
-            saying::say_number(rt, count as u64)?;
-            saying::say_number(rt, next as u64)?;
+        Ok(Some(line)) => {
+            saying::say_code(rt, u32::from(writing::byte_of(line.letter)))?;
+            saying::say_number(rt, line.count as u64)?;
+            saying::say_number(rt, line.next as u64)?;
         }
-        LineAnswer::End => saying::say_code(rt, 0)?,
-        LineAnswer::Refused(number) => saying::say_code(rt, number as u32)?,
+        Ok(None) => saying::say_code(rt, 0)?,
+        Err(fault) => saying::say_code(rt, u32::from(u8::from(fault)))?,
     }
     saying::say_table(rt, b", table", &numbers)?;
     saying::say(rt, b"\n")

@@ -3,6 +3,7 @@
 use mathlib.Core.Path.{◌≡◌, refl, sym, ◌∙◌, ap, ap₂}
 use mathlib.Core.Bool.{Bool, true, false, cond, not, ◌&&◌, ◌||◌, true≢false}
 use mathlib.Core.Option.{Option, none, some}
+use Rattle.std.specs.Prelude.{Option as Answer, Some, None}
 use mathlib.Core.Logic.{inr}
 use mathlib.Core.List.{List, [], ◌∷◌, ◌++◌, append-nil}
 use Prim.Native.Nat.{ℕ, zero, suc, ◌+◌, ◌-◌, ◌*◌, ◌<◌, ◌≤◌, max}
@@ -30,6 +31,8 @@ use Rattle.packets.specs.Packets.{steps_top, word_count, step_count, step_part, 
 use Rattle.packets.specs.Parts.{step_size, if_passes, step_at, StepTold, TextTold}
 use Rattle.packets.specs.declared.reader.Part.{Part}
 use Rattle.packets.proofs.RulesRead.{onto, onto-one, onto-none, onto-some}
+use Rattle.drupe.specs.declared.ProofFault.TheVariants.{OutOfRange}
+use Rattle.drupe.specs.declared.ProofFault.{ProofFault}
 
 -- Steps: lengths
 
@@ -149,13 +152,16 @@ module _ (x : Letter) (zs : List ℤ) where
       let d = or-decides (passed (any_outside zs)) (passed (ltb most_numbers (length zs))) in
       not_good (by (any_outside zs || ltb most_numbers (length zs)) _ (is_true d (inr (lt-ltb most_numbers (length zs) h))))
     where
-      by : (t : Bool) (o : Option ℕ) → t ≡ true → all_passed (cond t (some 23) o) ≡ false
+      by : (t : Bool) (o : Answer ProofFault) → t ≡ true → all_passed (cond t (Some OutOfRange) o) ≡ false
       by true o e = refl
       by false o e = absurd (true≢false (sym e))
 
+abbrev taken : ℕ → ℕ → Answer Part
+taken n m = Some (record { count = n; top = m })
+
 -- a step that is put is told
-pub step-told : (t : Step) {before after : List ℕ} {at end : ℕ} → Put (step_text t) before after at end → StepTold (some t) before after at (Part.Taken end (top t.numbers))
-step-told t p = (ap (λ (n : ℕ). Part.Taken n (top t.numbers)) p.ends, record { stands = p.stands; ends = refl })
+pub step-told : (t : Step) {before after : List ℕ} {at end : ℕ} → Put (step_text t) before after at end → StepTold (some t) before after at (Some (record { count = end; top = top t.numbers }))
+step-told t p = (ap (λ (n : ℕ). taken n (top t.numbers)) p.ends, record { stands = p.stands; ends = refl })
 
 module _ (bs : List ℕ) (h : 2 ≤ length bs) where
   step-at : step_at bs ≡ if_passes (letter_in (class_of (get_or bs 0 0))) (numbers_from 2 (get_or bs 1 0) (drop 2 bs))
@@ -226,17 +232,17 @@ unfolding text_of
 going_start bytes count proof f = record { before = []; within = omega arith; fits = f; whole = refl; text = put-none proof 0; short = omega arith; tops = refl }
 
 -- what is told of a step
-told_none : (o : Option Step) (before after : List ℕ) (at : ℕ) {r : Part} → r ≡ Part.Refused → StepTold o before after at r → o ≡ none
+told_none : (o : Option Step) (before after : List ℕ) (at : ℕ) {r : Answer Part} → r ≡ None → StepTold o before after at r → o ≡ none
 told_none none before after at e t = refl
 told_none (some s) before after at e t = absurd (zero_one (let q = sym e ∙ t.0 in cc))
 
-told-some : (o : Option Step) (before after : List ℕ) (at : ℕ) {next largest : ℕ} {r : Part} → r ≡ Part.Taken next largest → StepTold o before after at r
-    → (s : Step) × ((o ≡ some s) × (Put (step_text s) before after at next × (largest ≡ top s.numbers)))
+told-some : (o : Option Step) (before after : List ℕ) (at : ℕ) {r : Answer Part} {x : Part} → r ≡ Some x → StepTold o before after at r
+    → (s : Step) × ((o ≡ some s) × (Put (step_text s) before after at x.count × (x.top ≡ top s.numbers)))
 told-some none before after at e t = absurd (zero_one (let q = sym e ∙ t in cc))
-told-some (some s) before after at {next = next} {largest} e t =
+told-some (some s) before after at {x = x} e t =
     let q = sym e ∙ t.0 in
-    let n : next ≡ at + length (step_text s) = cc in
-    let m : largest ≡ top s.numbers = cc in
+    let n : x.count ≡ at + length (step_text s) = cc in
+    let m : x.top ≡ top s.numbers = cc in
     (s, (refl, (record { stands = t.1.stands; ends = n }, m)))
 
 module _ {bytes : List ℕ} {count : ℕ} {proof₀ proof : List ℕ} {left i end largest : ℕ} (g : Going bytes count proof₀ proof left i end largest) where
@@ -250,13 +256,13 @@ module _ {bytes : List ℕ} {count : ℕ} {proof₀ proof : List ℕ} {left i en
     ahead : steps_from count bytes ≡ onto g.before (followed (step_at rest) (steps_from (left - 1) (drop (step_size rest) rest)))
     ahead = g.whole ∙ ap (onto g.before) (steps_on left rest h going-size)
 
-    pub going-refused : (after : List ℕ) {r : Part} → r ≡ Part.Refused → StepTold (step_at rest) proof after end r → steps_in count bytes ≡ none
+    pub going-refused : (after : List ℕ) {r : Answer Part} → r ≡ None → StepTold (step_at rest) proof after end r → steps_in count bytes ≡ none
     unfolding steps_in
     going-refused after e t =
         ap if_short (ahead ∙ ap (λ o. onto g.before (followed o (steps_from (left - 1) (drop (step_size rest) rest)))) (told_none (step_at rest) proof after end e t) ∙ onto-none g.before)
 
     -- a step is taken
-    module _ (after : List ℕ) {next seen : ℕ} {r : Part} (e : r ≡ Part.Taken next seen) (t : StepTold (step_at rest) proof after end r) where
+    module _ (after : List ℕ) {r : Answer Part} {x : Part} (e : r ≡ Some x) (t : StepTold (step_at rest) proof after end r) where
       abbrev s : Step
       s = (told-some (step_at rest) proof after end e t).0
 
@@ -267,7 +273,7 @@ module _ {bytes : List ℕ} {count : ℕ} {proof₀ proof : List ℕ} {left i en
       unfolding text_of
       more-text = text-append g.before (s ∷ []) ∙ ap (λ (l : List ℕ). text_of g.before ++ l) (append-nil (step_text s))
 
-      put-more : Put (text_of more) proof₀ after 0 next
+      put-more : Put (text_of more) proof₀ after 0 x.count
       put-more = rw more-text (put_on g.text (told-some (step_at rest) proof after end e t).1.1.0)
 
       on : steps_from count bytes ≡ onto more (steps_from (left - 1) (drop (step_size rest) rest))
@@ -275,7 +281,7 @@ module _ {bytes : List ℕ} {count : ℕ} {proof₀ proof : List ℕ} {left i en
           ahead ∙ ap (λ o. onto g.before (followed o (steps_from (left - 1) (drop (step_size rest) rest)))) (told-some (step_at rest) proof after end e t).1.0
           ∙ onto-one g.before s (steps_from (left - 1) (drop (step_size rest) rest))
 
-      pub going-long : longest < next → steps_in count bytes ≡ none
+      pub going-long : longest < x.count → steps_in count bytes ≡ none
       unfolding steps_in
       going-long k = ap if_short on ∙ by (steps_from (left - 1) (drop (step_size rest) rest))
         where
@@ -285,7 +291,7 @@ module _ {bytes : List ℕ} {count : ℕ} {proof₀ proof : List ℕ} {left i en
               let l : longest < length (text_of (more ++ us)) = omega (arith, put-more.ends, ap length (text-append more us), length-append (text_of more) (text_of us)) in
               ap if_short (onto-some more us) ∙ rw (lt-leb (length (text_of (more ++ us))) longest l)
 
-      pub going_on : {most : ℕ} → most ≡ max largest seen → next ≤ longest → Going bytes count proof₀ after (left - 1) (i + step_size rest) next most
+      pub going_on : {most : ℕ} → most ≡ max largest x.top → x.count ≤ longest → Going bytes count proof₀ after (left - 1) (i + step_size rest) x.count most
       going_on m k = record {
         before = more;
         within = omega (arith, g.within, size-within rest, length-drop i bytes);
@@ -299,9 +305,9 @@ module _ {bytes : List ℕ} {count : ℕ} {proof₀ proof : List ℕ} {left i en
   pub going-kept : length proof ≡ length proof₀
   going-kept = rw g.text.stands (length-sets proof₀ 0 (text_of g.before))
 
-  pub going_end : left ≤ 0 → TextTold (steps_in count bytes) proof₀ proof (Part.Taken end largest)
+  pub going_end : left ≤ 0 → TextTold (steps_in count bytes) proof₀ proof (Some (record { count = end; top = largest }))
   unfolding steps_in steps_from
-  going_end z = rw (all, le-leb (length (text_of g.before)) longest (omega (arith, g.short, g.text.ends))) (ap₂ Part.Taken (omega (arith, g.text.ends)) g.tops, g.text.stands)
+  going_end z = rw (all, le-leb (length (text_of g.before)) longest (omega (arith, g.short, g.text.ends))) (ap₂ taken (omega (arith, g.text.ends)) g.tops, g.text.stands)
     where
       last : (n : ℕ) (bs : List ℕ) → n ≤ 0 → steps_from n bs ≡ some []
       last zero bs h = refl

@@ -3,6 +3,7 @@
 use mathlib.Core.Path.{◌≡◌, refl, sym, ◌∙◌, ap, ap₂, subst}
 use mathlib.Core.Bool.{Bool, true, false, and-false}
 use mathlib.Core.Option.{Option, none, some}
+use Rattle.std.specs.Prelude.{Option as Answer, Some, None}
 use mathlib.Core.List.{List, ◌++◌}
 use Prim.Native.Nat.{ℕ, ◌+◌, ◌<◌, ◌≤◌, max}
 use native.Mathlib.Omega.{arith}
@@ -74,7 +75,7 @@ given v size rules bytes largest table proof P ts k f h l =
 
 -- Both parts
 
-pub table_none : (o : Option (List InputRule)) (before after : List ℤ) {r : RulesPart} → r ≡ RulesPart.Refused → TableTold o before after r → o ≡ none
+pub table_none : (o : Option (List InputRule)) (before after : List ℤ) {r : Answer RulesPart} → r ≡ None → TableTold o before after r → o ≡ none
 table_none none before after e t = refl
 table_none (some P) before after e t = absurd (zero_one (let q = sym e ∙ t.0 in cc))
 
@@ -88,24 +89,24 @@ pub record TableTaken (o : Option (List InputRule)) (before after : List ℤ) (r
   pub plainly : plain ≡ all_plain P
   pub stands : after ≡ sets before 0 (program_words P)
 
-pub table-some : (o : Option (List InputRule)) (before after : List ℤ) {r : RulesPart} {n w a : ℕ} {b : Bool} → r ≡ RulesPart.Taken n w a b → TableTold o before after r
-    → TableTaken o before after n w a b
+pub table-some : (o : Option (List InputRule)) (before after : List ℤ) {r : Answer RulesPart} {x : RulesPart} → r ≡ Some x → TableTold o before after r
+    → TableTaken o before after x.rules x.words x.top x.plain
 table-some none before after e t = absurd (zero_one (let q = sym e ∙ t in cc))
 table-some (some P) before after e t =
     let q = sym e ∙ t.0 in
     record { P = P; there = refl; count = cc; size = cc; atom = cc; plainly = cc; stands = t.1 }
 
-pub text-none : (o : Option (List Step)) (before after : List ℕ) {r : Part} → r ≡ Part.Refused → TextTold o before after r → o ≡ none
+pub text-none : (o : Option (List Step)) (before after : List ℕ) {r : Answer Part} → r ≡ None → TextTold o before after r → o ≡ none
 text-none none before after e t = refl
 text-none (some ts) before after e t = absurd (zero_one (let q = sym e ∙ t.0 in cc))
 
-pub text-some : (o : Option (List Step)) (before after : List ℕ) {r : Part} {n a : ℕ} → r ≡ Part.Taken n a → TextTold o before after r
-    → (ts : List Step) × ((o ≡ some ts) × ((n ≡ length (text_of ts)) × ((after ≡ sets before 0 (text_of ts)) × (a ≡ steps_top ts))))
+pub text-some : (o : Option (List Step)) (before after : List ℕ) {r : Answer Part} {x : Part} → r ≡ Some x → TextTold o before after r
+    → (ts : List Step) × ((o ≡ some ts) × ((x.count ≡ length (text_of ts)) × ((after ≡ sets before 0 (text_of ts)) × (x.top ≡ steps_top ts))))
 text-some none before after e t = absurd (zero_one (let q = sym e ∙ t in cc))
-text-some (some ts) before after {n = n} {a} e t =
+text-some (some ts) before after {x = x} e t =
     let q = sym e ∙ t.0 in
-    let m : n ≡ length (text_of ts) = cc in
-    let k : a ≡ steps_top ts = cc in
+    let m : x.count ≡ length (text_of ts) = cc in
+    let k : x.top ≡ steps_top ts = cc in
     (ts, (refl, (m, (t.1, k))))
 
 -- only the outputs' lengths count
@@ -117,11 +118,11 @@ module _ (v : Version) (count : ℕ) (part : List ℕ) (steps : ℕ) (bytes : Li
   abbrev ws : List ℤ
   ws = numbers_from 4 count part
 
-  pub no-rules : (before after : List ℤ) {r : RulesPart} → r ≡ RulesPart.Refused → TableTold (rules_in v ws) before after r → parts_read v count part steps bytes ≡ refused 53
+  pub no-rules : (before after : List ℤ) {r : Answer RulesPart} → r ≡ None → TableTold (rules_in v ws) before after r → parts_read v count part steps bytes ≡ refused 53
   unfolding parts_read
   no-rules before after e c = rw (table_none (rules_in v ws) before after e c)
 
-  pub no_steps : (before after : List ℕ) {r : Part} → r ≡ Part.Refused → TextTold (steps_in steps bytes) before after r → parts_read v count part steps bytes ≡ refused 53
+  pub no_steps : (before after : List ℕ) {r : Answer Part} → r ≡ None → TextTold (steps_in steps bytes) before after r → parts_read v count part steps bytes ≡ refused 53
   unfolding parts_read
   no_steps before after e c = rw (text-none (steps_in steps bytes) before after e c) (by (rules_in v ws))
     where
@@ -129,18 +130,18 @@ module _ (v : Version) (count : ℕ) (part : List ℕ) (steps : ℕ) (bytes : Li
       by none = refl
       by (some P) = refl
 
-  pub both : (table filled table' : List ℤ) (proof after proof' : List ℕ) (rules size n x y top : ℕ) (b : Bool) {r : RulesPart} {s : Part} (answer : PacketReading)
+  pub both : (table filled table' : List ℤ) (proof after proof' : List ℕ) {x : RulesPart} {y : Part} {top : ℕ} {r : Answer RulesPart} {s : Answer Part} {answer : PacketReading}
       → Zeros (pos 0) table → Zeros 0 proof → length filled ≡ length table → length after ≡ length proof
-      → r ≡ RulesPart.Taken rules size x b → TableTold (rules_in v ws) table filled r → s ≡ Part.Taken n y → TextTold (steps_in steps bytes) proof after s
-      → top ≡ max x y → Given v size rules n top filled table' after proof' answer
+      → r ≡ Some x → TableTold (rules_in v ws) table filled r → s ≡ Some y → TextTold (steps_in steps bytes) proof after s
+      → top ≡ max x.top y.top → Given v x.words x.rules y.count top filled table' after proof' answer
       → ReadLeaves (if_held (length table) (length proof) (parts_read v count part steps bytes)) table table' proof proof' answer
   unfolding parts_read rules_in
-  both table filled table' proof after proof' rules size n x y top b answer z w j l p c q t o g =
+  both table filled table' proof after proof' {x} {y} {top} {r} {s} {answer} z w j l p c q t o g =
       let a = table-some (rules_in v ws) table filled p c in
       let b = text-some (steps_in steps bytes) proof after q t in
       let P = a.P in
       let ts = b.0 in
-      let k : Parts v size rules n top filled after P ts = record {
+      let k : Parts v x.words x.rules y.count top filled after P ts = record {
         size_of = a.size;
         rules-of = a.count;
         bytes_of = b.1.1.0;

@@ -3,6 +3,7 @@
 use mathlib.Core.Path.{◌≡◌, refl, sym, ◌∙◌, ap, ap₂}
 use mathlib.Core.Bool.{Bool, true, false, cond, ◌&&◌, and-true}
 use mathlib.Core.Option.{Option, none, some}
+use Rattle.std.specs.Prelude.{Some}
 use mathlib.Core.List.{List, [], ◌∷◌, ◌++◌, append-nil}
 use Prim.Native.Nat.{ℕ, zero, suc, ◌+◌, ◌-◌, ◌<◌, ◌≤◌, max}
 use native.Mathlib.Omega.{arith}
@@ -23,7 +24,6 @@ use Rattle.packets.specs.Packets.{packet_rule, prepend, with_kind, as_table, few
 use Rattle.packets.specs.Parts.{most_words, size_if_sound, RuleTold, TableTold}
 use Rattle.packets.specs.declared.Version.{Version}
 use Rattle.packets.specs.declared.Version.TheVariants.{One, Two}
-use Rattle.packets.specs.declared.reader.RulesPart.{RulesPart}
 use Rattle.packets.specs.declared.reader.RuleRead.{RuleRead}
 use Rattle.packets.proofs.RuleParts.{words_more, some_words, rule-long, rule-part, front-rule, rule-size, first_passes, first-rule}
 
@@ -238,7 +238,7 @@ module _ {v : Version} {ws table₀ table : List ℤ} {rules words largest : ℕ
   pub filling-kept : length table ≡ length table₀
   filling-kept = rw g.stands (length-sets table₀ 0 (program_words g.before))
 
-  pub filling-end : length ws ≤ i → TableTold (rules_in v ws) table₀ table (RulesPart.Taken rules words largest plain)
+  pub filling-end : length ws ≤ i → TableTold (rules_in v ws) table₀ table (Some (record { rules = rules; words = words; top = largest; plain = plain }))
   filling-end h =
       let n = rules-none v (most_rules - rules) (drop i ws) (omega (arith, length-drop i ws)) in
       let e = g.whole ∙ ap (onto g.before) n ∙ onto-some g.before [] ∙ ap some (append-nil g.before) in

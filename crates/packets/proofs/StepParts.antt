@@ -3,6 +3,7 @@
 use mathlib.Core.Path.{◌≡◌, refl, sym, ◌∙◌, ap, ap₂}
 use mathlib.Core.Bool.{Bool, true, false, cond, not, ◌||◌, true≢false}
 use mathlib.Core.Option.{Option, none, some, some-injective, none-ne-some}
+use Rattle.std.specs.Prelude.{Option as Answer, Some, None}
 use mathlib.Core.List.Memᴰ
 use mathlib.Core.List.{List, [], ◌∷◌, ◌++◌}
 use Prim.Native.Nat.{ℕ, zero, suc, ◌*◌, ◌<◌, ◌≤◌}
@@ -29,6 +30,8 @@ use Rattle.packets.specs.Bytes.{bytes_of, numbers_from}
 use Rattle.packets.specs.Packets.{steps_bytes, fills, letter_in, step_passes, prepend, step_with, steps_from}
 use Rattle.packets.specs.Claims.{Bytes}
 use Rattle.packets.proofs.Littles.{InRange, bytes-tail, bytes-part, length-bytes, numbers-back, length-numbers, numbers-whole}
+use Rattle.drupe.specs.declared.ProofFault.TheVariants.{OutOfRange}
+use Rattle.drupe.specs.declared.ProofFault.{ProofFault}
 
 -- One step
 
@@ -40,14 +43,14 @@ pub test-pass : (t : Step) → step_passes t ≡ true → LinePasses t
 unfolding step_passes
 test-pass t e = (by (line_refusal t.letter t.numbers) (and_right (not (has (pos 0) t.numbers)) _ e), not-true _ (and_left _ _ e))
   where
-    by : (o : Option ℕ) → all_passed o ≡ true → o ≡ none
-    by none e = refl
-    by (some k) e = absurd (true≢false (sym e))
+    by : (o : Answer ProofFault) → all_passed o ≡ true → o ≡ None
+    by None e = refl
+    by (Some k) e = absurd (true≢false (sym e))
 
-inside-line : (x : Letter) (zs : List ℤ) → line_refusal x zs ≡ none → any_outside zs ≡ false
+inside-line : (x : Letter) (zs : List ℤ) → line_refusal x zs ≡ None → any_outside zs ≡ false
 inside-line x zs e = by (any_outside zs || ltb most_numbers (length zs)) _ refl e
   where
-    by : (t : Bool) (o : Option ℕ) → (any_outside zs || ltb most_numbers (length zs)) ≡ t → cond t (some 23) o ≡ none → any_outside zs ≡ false
+    by : (t : Bool) (o : Answer ProofFault) → (any_outside zs || ltb most_numbers (length zs)) ≡ t → cond t (Some OutOfRange) o ≡ None → any_outside zs ≡ false
     by true o k e = absurd (zero_one (cc))
     by false o k e = or-false-left (any_outside zs) (ltb most_numbers (length zs)) k
 

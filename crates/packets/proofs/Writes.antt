@@ -39,6 +39,7 @@ use Rattle.packets.specs.Writes.{step_room, is_read, steps_read, StepsPutAs, wri
 use Rattle.packets.specs.declared.PacketWriting.{PacketWriting}
 use Rattle.packets.specs.declared.PacketWriting.TheVariants as Writing
 use Rattle.packets.proofs.Littles.{plain-bytes, length-bytes}
+use Rattle.drupe.specs.declared.ProofFault.{ProofFault}
 
 -- Of some bytes that are put from `at` on, those before `end` stand in the buffer, and `left` are yet to be put.
 pub record Going (whole left before now : List ℕ) (at end : ℕ) : Type 0 where
@@ -185,7 +186,7 @@ module _ {text before now : List ℕ} {at position n largest end : ℕ} (S : Ste
   pub stepping-end : line_at text position ≡ Lines.end → StepsPutAs (steps_of text) before now at (record { good = true; steps = n; top = largest; end = end })
   stepping-end e = rw (short-steps longest text S.short ∙ walked_end S.walked e) (record { good = refl; count = S.walked.count; largest = S.tops; put = S.put })
 
-  pub stepping-refused : (k : ℕ) → line_at text position ≡ Lines.refused k → StepsPutAs (steps_of text) before now at (record { good = false; steps = n; top = largest; end = end })
+  pub stepping-refused : (k : ProofFault) → line_at text position ≡ Lines.refused k → StepsPutAs (steps_of text) before now at (record { good = false; steps = n; top = largest; end = end })
   stepping-refused k e = rw (short-steps longest text S.short ∙ walked-refused S.walked k e) (record { good = refl; count = S.walked.count; largest = S.tops; put = S.put })
 
 -- the text is too long

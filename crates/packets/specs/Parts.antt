@@ -1,6 +1,6 @@
 -- What the private functions of the reader come to; no reader of a public contract needs it.
 -- Assumes nothing.
-use Rattle.std.specs.Prelude.{◌≡◌, true, cond, List, [], ◌∷◌, ℕ, ◌+◌, ◌*◌, ◌<◌, ◌≤◌, leb, ℤ, pos, length, replicate}
+use Rattle.std.specs.Prelude.{◌≡◌, true, cond, List, [], ◌∷◌, ℕ, ◌+◌, ◌*◌, ◌<◌, ◌≤◌, leb, ℤ, pos, length, replicate, Option as Answer, Some, None}
 use Rattle.std.proofs.Math.Option.{Option, none, some}
 use Rattle.std.proofs.lemmas.List.Edits.{sets}
 use Rattle.text.specs.Bytes.{class_of}
@@ -16,7 +16,6 @@ use Rattle.packets.specs.Packets.{has_words, steps_top, pair_top, as_table, rule
 use Rattle.packets.specs.declared.Version.{Version}
 use Rattle.packets.specs.declared.PacketReading.{PacketReading}
 use Rattle.packets.specs.declared.reader.Part.{Part}
-use Rattle.packets.specs.declared.reader.Part.TheVariants.{Taken, Refused}
 use Rattle.packets.specs.declared.reader.RulesPart.{RulesPart}
 use Rattle.packets.specs.declared.reader.RuleRead.{RuleRead}
 
@@ -46,10 +45,10 @@ RowTold v row before after at r = (ws : List ℤ) → row ≡ as_table v ws → 
 
 -- the words of rules stand in the table from its front on, as many as fit, and it is told how many rules and words they are, their largest
 -- atom, and whether none has a weight body
-abbrev pub TableTold : Option (List InputRule) → List ℤ → List ℤ → RulesPart → Type 0
-TableTold none before after r = r ≡ RulesPart.Refused
+abbrev pub TableTold : Option (List InputRule) → List ℤ → List ℤ → Answer RulesPart → Type 0
+TableTold none before after r = r ≡ None
 TableTold (some P) before after r =
-    (r ≡ RulesPart.Taken (length P) (length (program_words P)) (atoms P) (all_plain P)) × (after ≡ sets before 0 (program_words P))
+    (r ≡ Some (record { rules = length P; words = length (program_words P); top = atoms P; plain = all_plain P })) × (after ≡ sets before 0 (program_words P))
 
 -- The reader's steps
 
@@ -71,15 +70,15 @@ step_at (x ∷ []) = none
 step_at (x ∷ c ∷ bs) = if_passes (letter_in (class_of x)) (numbers_from 2 c bs)
 
 -- a step's line stands in the text from `at` on, and the position after it is told, and its largest variable
-abbrev pub StepTold : Option Step → List ℕ → List ℕ → ℕ → Part → Type 0
-StepTold none before after at r = r ≡ Refused
+abbrev pub StepTold : Option Step → List ℕ → List ℕ → ℕ → Answer Part → Type 0
+StepTold none before after at r = r ≡ None
 StepTold (some t) before after at r =
-    (r ≡ Taken (at + length (step_text t)) (top t.numbers)) × Put (step_text t) before after at (at + length (step_text t))
+    (r ≡ Some (record { count = at + length (step_text t); top = top t.numbers })) × Put (step_text t) before after at (at + length (step_text t))
 
 -- the lines of steps stand in the text from its front on, and their length is told, and their largest variable
-abbrev pub TextTold : Option (List Step) → List ℕ → List ℕ → Part → Type 0
-TextTold none before after r = r ≡ Refused
-TextTold (some ts) before after r = (r ≡ Taken (length (text_of ts)) (steps_top ts)) × (after ≡ sets before 0 (text_of ts))
+abbrev pub TextTold : Option (List Step) → List ℕ → List ℕ → Answer Part → Type 0
+TextTold none before after r = r ≡ None
+TextTold (some ts) before after r = (r ≡ Some (record { count = length (text_of ts); top = steps_top ts })) × (after ≡ sets before 0 (text_of ts))
 
 -- The reader's outputs
 

@@ -44,7 +44,7 @@ pub fn write_packet(
     ensures { WrittenPacket version table.now rules proof.now packet.old
         packet.new result }
 {
-    words::zero_bytes(packet);
+    words::zero_all(packet);
     match version {
         1 => writer::write_as(Version::One, table, rules, proof, packet),
         2 => writer::write_as(Version::Two, table, rules, proof, packet),
@@ -64,7 +64,7 @@ pub fn read_packet(
         proof.new result }
 {
     words::zero_all(table);
-    words::zero_bytes(proof);
+    words::zero_all(proof);
     match version {
         1 => reader::read_as(Version::One, packet, table, proof),
         2 => reader::read_as(Version::Two, packet, table, proof),

@@ -17,10 +17,8 @@ pub fn value_of(bytes: &[u8], negative: bool) -> usize
     requires { length bytes.now ≤ 4 }
     ensures { (result ≡ value (map (flip_if negative) bytes.now)) × (result < 4294967296) }
 {
-    let mut i = bytes.len();
     let mut n = 0;
-    while 0 < i {
-        i -= 1;
+    for i in (0..bytes.len()).rev() {
         n = n * 256 + words::wide_byte(flip_if(negative, bytes[i]));
     }
     n
@@ -45,12 +43,9 @@ pub fn read_numbers(row: &mut [i32], bytes: &[u8], k: usize)
     requires { ((0 < k) × (k ≤ 4)) × (k * length row.old ≤ length bytes.now) }
     ensures { row.new ≡ numbers_from k (length row.old) bytes.now }
 {
-    let mut i = 0;
-    let mut at = 0;
-    while i < row.len() {
+    for i in 0..row.len() {
+        let at = k * i;
         let end = at + k;
         row[i] = signed_of(&bytes[at..end]);
-        at = end;
-        i += 1;
     }
 }

@@ -20,24 +20,21 @@ const FRONT: usize = 3;
 // The words of the longest rule, and the place before them.
 const ROW: usize = 1 + tables::LONGEST_RULE;
 
-// How many bytes of text the steps come to, with their largest variable; or that they are refused.
+// How many bytes of text the steps come to, with their largest variable.
 #[derive(Drop)]
-pub enum Part {
-    Taken { count: usize, top: usize },
-    Refused,
+pub struct Part {
+    pub count: usize,
+    pub top: usize,
 }
 
-// How many rules the words of a packet come to, and how many words of the table; their largest atom, and whether none has a weight body;
-// or that they are refused.
+// How many rules the words of a packet come to, and how many words of the table; their largest atom, and whether none has a
+// weight body.
 #[derive(Drop)]
-pub enum RulesPart {
-    Taken {
-        rules: usize,
-        words: usize,
-        top: usize,
-        plain: bool,
-    },
-    Refused,
+pub struct RulesPart {
+    pub rules: usize,
+    pub words: usize,
+    pub top: usize,
+    pub plain: bool,
 }
 
 // How many words of the packet a rule takes, 0 where none stands there, and how many of the table; its largest atom, and whether it has
@@ -77,15 +74,13 @@ fn step_size(bytes: &[u8]) -> usize
 fn are_steps(bytes: &[u8], count: usize) -> bool
     ensures { result ≡ fills count bytes.now }
 {
-    let mut left = count;
     let mut at = 0;
-    while 0 < left {
+    for _ in 0..count {
         let size = step_size(&bytes[at..]);
         if size == 0 {
             return false;
         }
         at += size;
-        left -= 1;
     }
     at == bytes.len()
 }
@@ -198,7 +193,12 @@ pub fn read_rule(
 }
 
 // The rules that the words fall into go to the table, as many words as fit.
-pub fn read_rules(version: Version, bytes: &[u8], count: usize, table: &mut [i32]) -> RulesPart
+pub fn read_rules(
+    version: Version,
+    bytes: &[u8],
+    count: usize,
+    table: &mut [i32],
+) -> Option<RulesPart>
     requires { 4 * count ≤ length bytes.now }
     ensures { TableTold (rules_in version (numbers_from 4 count bytes.now)) table.old
         table.new result }
@@ -210,12 +210,12 @@ pub fn read_rules(version: Version, bytes: &[u8], count: usize, table: &mut [i32
     let mut i = 0;
     while i < count {
         if words::MOST_RULES <= rules {
-            return RulesPart::Refused;
+            return None;
         }
         let from = 4 * i;
         let read = read_rule(version, &bytes[from..], count - i, table, words);
         if read.size == 0 {
-            return RulesPart::Refused;
+            return None;
         }
         i += read.size;
         words += read.words;
@@ -223,16 +223,22 @@ pub fn read_rules(version: Version, bytes: &[u8], count: usize, table: &mut [i32
         plain = plain & read.plain;
         rules += 1;
     }
-    RulesPart::Taken {
+    Some(RulesPart {
         rules,
         words,
         top,
         plain,
-    }
+    })
 }
 
 // The step whose numbers the row is filled with: its line is written, and its position after it told where it passes.
-fn decode_step(letter: Letter, row: &mut [i32], bytes: &[u8], proof: &mut [u8], at: usize) -> Part
+fn decode_step(
+    letter: Letter,
+    row: &mut [i32],
+    bytes: &[u8],
+    proof: &mut [u8],
+    at: usize,
+) -> Option<Part>
     requires { (length row.old ≤ most_numbers) × ((2 * length row.old ≤ length bytes.now) × (at ≤ longest)) }
     ensures { StepTold (if_passes (some letter) (numbers_from 2 (length row.old) bytes.now))
         proof.old proof.new at result }
@@ -240,76 +246,67 @@ fn decode_step(letter: Letter, row: &mut [i32], bytes: &[u8], proof: &mut [u8], 
     numbers::read_numbers(row, bytes, 2);
     let end = drupe::writing::write_step(letter, row, proof, at);
     if words::contains(row, 0) {
-        return Part::Refused;
+        return None;
     }
     let top = words::largest_variable(row);
     if drupe::is_good(letter, row) {
-        return Part::Taken { count: end, top };
+        return Some(Part { count: end, top });
     }
-    Part::Refused
+    None
 }
 
 // The step of a letter with so many numbers.
-fn step_with(letter: Letter, count: usize, bytes: &[u8], proof: &mut [u8], at: usize) -> Part
+fn step_with(
+    letter: Letter,
+    count: usize,
+    bytes: &[u8],
+    proof: &mut [u8],
+    at: usize,
+) -> Option<Part>
     requires { (2 * count ≤ length bytes.now) × (at ≤ longest) }
     ensures { StepTold (if_passes (some letter) (numbers_from 2 count bytes.now)) proof.old
         proof.new at result }
 {
     if words::MOST_NUMBERS < count {
-        return Part::Refused;
+        return None;
     }
     let mut row = [0; words::MOST_NUMBERS];
     decode_step(letter, &mut row[..count], bytes, proof, at)
 }
 
 // The step at the front.
-fn read_step(bytes: &[u8], proof: &mut [u8], at: usize, classes: &[u8; 256]) -> Part
+fn read_step(bytes: &[u8], proof: &mut [u8], at: usize, classes: &[u8; 256]) -> Option<Part>
     requires bytes_nonzero { (0 < step_size bytes.now) × (at ≤ longest) }
     requires classes_value { classes.now ≡ byte_classes }
     ensures { StepTold (step_at bytes.now) proof.old proof.new at result }
 {
     let count = words::wide_byte(bytes[1]);
-    let class = text::class_of(classes, bytes[0]);
-    match class {
-        Class::Step(letter) => step_with(letter, count, &bytes[2..], proof, at),
-        Class::Newline => Part::Refused,
-        Class::Space => Part::Refused,
-        Class::Minus => Part::Refused,
-        Class::Digit(_) => Part::Refused,
-        Class::Other => Part::Refused,
-    }
+    let Class::Step(letter) = text::class_of(classes, bytes[0]) else {
+        return None;
+    };
+    step_with(letter, count, &bytes[2..], proof, at)
 }
 
 // The text of so many steps.
-pub fn read_steps(bytes: &[u8], count: usize, proof: &mut [u8], classes: &[u8; 256]) -> Part
+pub fn read_steps(bytes: &[u8], count: usize, proof: &mut [u8], classes: &[u8; 256]) -> Option<Part>
     requires bytes_value { fills count bytes.now ≡ true }
     requires classes_value { classes.now ≡ byte_classes }
     ensures { TextTold (steps_in count bytes.now) proof.old proof.new result }
 {
-    let mut left = count;
     let mut i = 0;
     let mut end = 0;
     let mut top = 0;
-    while 0 < left {
+    for _ in 0..count {
         let rest = &bytes[i..];
         i += step_size(rest);
-        left -= 1;
-        let read = read_step(rest, proof, end, classes);
-        match read {
-            Part::Refused => return Part::Refused,
-            Part::Taken {
-                count: next,
-                top: largest,
-            } => {
-                if words::LONGEST < next {
-                    return Part::Refused;
-                }
-                end = next;
-                top = words::larger(top, largest);
-            }
+        let step = read_step(rest, proof, end, classes)?;
+        if words::LONGEST < step.count {
+            return None;
         }
+        end = step.count;
+        top = words::larger(top, step.top);
     }
-    Part::Taken { count: end, top }
+    Some(Part { count: end, top })
 }
 
 // Nothing of a packet that is refused stays in the outputs.
@@ -318,7 +315,7 @@ fn refuse(number: u8, table: &mut [i32], proof: &mut [u8]) -> PacketReading
         proof.new result }
 {
     words::zero_all(table);
-    words::zero_bytes(proof);
+    words::zero_all(proof);
     PacketReading::Refused(number)
 }
 
@@ -365,26 +362,22 @@ fn read_parts(
         proof.old proof.new result }
 {
     let classes = text::classes::CLASSES;
-    let text = read_steps(bytes, steps, proof, &classes);
-    let rules = read_rules(version, words, count, table);
-    match rules {
-        RulesPart::Refused => refuse(53, table, proof),
-        RulesPart::Taken {
-            rules,
-            words: size,
-            top: atoms,
-            plain: _,
-        } => match text {
-            Part::Refused => refuse(53, table, proof),
-            Part::Taken {
-                count: end,
-                top: largest,
-            } => {
-                let top = words::larger(atoms, largest);
-                give(version, size, rules, end, top, table, proof)
-            }
-        },
-    }
+    let Some(text) = read_steps(bytes, steps, proof, &classes) else {
+        return refuse(53, table, proof);
+    };
+    let Some(rules) = read_rules(version, words, count, table) else {
+        return refuse(53, table, proof);
+    };
+    let top = words::larger(rules.top, text.top);
+    give(
+        version,
+        rules.words,
+        rules.rules,
+        text.count,
+        top,
+        table,
+        proof,
+    )
 }
 
 // A packet of the version, into outputs of zeros.

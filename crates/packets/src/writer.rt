@@ -15,7 +15,7 @@ ghost use Rattle.packets.specs.Writes.{rule_room, step_room, last_rule_end, Step
 
 use crate::{HEADER, PacketWriting, Version, numbers, versions};
 use aspif::{Kind, tables};
-use drupe::{LineAnswer, reader};
+use drupe::reader;
 use text::{Letter, writing};
 use words::MOST_NUMBERS;
 
@@ -34,14 +34,12 @@ fn put_little(buffer: &mut [u8], at: usize, negative: bool, number: usize, k: us
     ensures { Put (map (flip_if negative) (little k number)) buffer.old buffer.new at result }
 {
     let mut left = number;
-    let mut i = 0;
-    while i < k {
+    for i in 0..k {
         let byte = (left % 256) as u8;
         writing::put(buffer, at + i, numbers::flip_if(negative, byte));
         left = left / 256;
-        i += 1;
     }
-    at + i
+    at + k
 }
 
 // The k bytes of a signed word.
@@ -62,11 +60,9 @@ fn put_all(buffer: &mut [u8], at: usize, row: &[i32], k: usize) -> usize
     ensures put { Put (bytes_of k row.now) buffer.old buffer.new at result }
     ensures value { result ≡ at + k * length row.now }
 {
-    let mut i = 0;
     let mut end = at;
-    while i < row.len() {
-        end = put_signed(buffer, end, row[i], k);
-        i += 1;
+    for word in row {
+        end = put_signed(buffer, end, *word, k);
     }
     end
 }
@@ -139,14 +135,9 @@ fn put_rules(version: Version, buffer: &mut [u8], at: usize, table: &[i32], rule
         buffer.new at result }
     ensures upper_bound { result ≤ last_rule_end }
 {
-    let mut left = rules;
-    let mut i = 0;
     let mut end = at;
-    while 0 < left {
-        let rest = &table[i..];
-        end = put_rule(version, buffer, end, rest);
-        i = tables::next_rule(table, i);
-        left -= 1;
+    for rule in tables::rules_in(table, rules) {
+        end = put_rule(version, buffer, end, rule.words);
     }
     end
 }
@@ -175,18 +166,9 @@ fn put_lines(buffer: &mut [u8], at: usize, text: &[u8]) -> StepsPut
     let mut steps = 0;
     let mut top = 0;
     let mut end = at;
-    loop {
-        let answer = reader::step_at(text, position, &classes, &mut numbers, &mut sorted);
-        match answer {
-            LineAnswer::End => {
-                return StepsPut {
-                    good: true,
-                    steps,
-                    top,
-                    end,
-                };
-            }
-            LineAnswer::Refused(_) => {
+    'lines: loop {
+        let read = match reader::step_at(text, position, &classes, &mut numbers, &mut sorted) {
+            Err(_) => {
                 return StepsPut {
                     good: false,
                     steps,
@@ -194,17 +176,20 @@ fn put_lines(buffer: &mut [u8], at: usize, text: &[u8]) -> StepsPut
                     end,
                 };
             }
-            LineAnswer::Line {
-                letter,
-                count,
-                next,
-            } => {
-                end = put_step(buffer, end, letter, &numbers[..count]);
-                top = words::larger(top, words::largest_variable(&numbers[..count]));
-                position = next;
-                steps += 1;
-            }
-        }
+            Ok(read) => read,
+        };
+        let Some(line) = read else {
+            return StepsPut {
+                good: true,
+                steps,
+                top,
+                end,
+            };
+        };
+        end = put_step(buffer, end, line.letter, &numbers[..line.count]);
+        top = words::larger(top, words::largest_variable(&numbers[..line.count]));
+        position = line.next;
+        steps += 1;
     }
 }
 
@@ -270,7 +255,7 @@ fn write_pair(
             answer
         }
         PacketWriting::Refused(_) => {
-            words::zero_bytes(packet);
+            words::zero_all(packet);
             answer
         }
     }

@@ -1,7 +1,7 @@
 -- What the functions of src/lib.rt, src/units.rt and src/replay.rt promise of the assignment. Only private
 -- functions cite this file; the contract of `refutes` names the derivation's `refuted` alone.
 -- Assumes nothing.
-use Rattle.std.specs.Prelude.{◌≡◌, ◌⊎◌, Bool, true, false, List, [], ◌∷◌, ℕ, zero, suc, ◌+◌, ◌≤◌, ◌<◌, ℤ, pos, negsuc, length, get_or, set}
+use Rattle.std.specs.Prelude.{◌≡◌, ◌⊎◌, Bool, true, false, Option, Some, None, List, [], ◌∷◌, ℕ, zero, suc, ◌+◌, ◌≤◌, ◌<◌, ℤ, pos, negsuc, length, get_or, set}
 use Rattle.words.specs.Limits.{entries}
 use Rattle.words.specs.Lists.{◌∈◌}
 use Rattle.words.specs.Literals.{variable, complement}
@@ -14,8 +14,6 @@ use Rattle.propagation.specs.declared.units.Look.{Look}
 use Rattle.propagation.specs.declared.units.Look.TheVariants.{All, Unit, Idle}
 use Rattle.propagation.specs.declared.units.Derived.{Derived}
 use Rattle.propagation.specs.declared.units.Derived.TheVariants.{Conflicting, Assigned, Nothing}
-use Rattle.propagation.specs.declared.replay.Replayed.{Replayed}
-use Rattle.propagation.specs.declared.replay.Replayed.TheVariants.{Clashing, Open}
 use Rattle.propagation.specs.declared.Swept.{Swept}
 use Rattle.propagation.specs.declared.Swept.TheVariants.{Refuted, Changed, Same}
 
@@ -118,9 +116,9 @@ Settles s rounds m m' Changed = Grows s m m' × (rounds + free m' ≤ free m)
 Settles s rounds m m' Same = Grows s m m' × AllSettled s m'
 
 -- a path came to a conflict, and the entries from an end on are free; or the assignment grew
-abbrev pub Replays : List ℤ → List ℕ → List ℕ → Replayed → Type 0
-Replays s m m' (Clashing end) = Clashes s m × ((end ≤ entries) × BlankFrom end m')
-Replays s m m' Open = Grows s m m'
+abbrev pub Replays : List ℤ → List ℕ → List ℕ → Option ℕ → Type 0
+Replays s m m' (Some end) = Clashes s m × ((end ≤ entries) × BlankFrom end m')
+Replays s m m' None = Grows s m m'
 
 -- a conflict was found, or the assignment can grow so that there is none
 abbrev pub Ends : List ℤ → List ℕ → Bool → Type 0

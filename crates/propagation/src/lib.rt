@@ -15,13 +15,12 @@ ghost use Rattle.nogoods.specs.Records.{Encodes};
 ghost use Rattle.nogoods.specs.Index.{scale_of, Marked, Keeps};
 ghost use Rattle.propagation.specs.Propagate.{Assigns, BlankFrom, Sweeps, Settles, Ends};
 
-use crate::replay::Replayed;
 use crate::units::Derived;
 use nogoods::{chains, records};
 use words::ENTRIES;
 
 // What one pass over the nogoods gave: a conflict; variables that are assigned now; nothing.
-#[derive(Drop)]
+#[derive(Clone, Copy, PartialEq, Eq)]
 enum Swept {
     Refuted,
     Changed,
@@ -35,6 +34,7 @@ fn sweep(nogoods: &[i32], assignment: &mut [u8; ENTRIES]) -> Swept
     ensures { Sweeps nogoods.now assignment.old assignment.new result }
 {
     let mut changed = false;
+    // Each record says where the next begins: a walk along records, and no loop over an index.
     let mut i = 0;
     while i < nogoods.len() {
         let given = units::derive_at(nogoods, i, assignment);
@@ -63,11 +63,9 @@ fn assign(literals: &[i32], assignment: &mut [u8; ENTRIES]) -> usize
     ensures literals { (z : ℤ) → (Assigns assignment.new z) ↔ (z ∈ literals.now) }
 {
     let mut end = 0;
-    let mut i = 0;
-    while i < literals.len() {
-        let v = units::make_true(literals[i], assignment);
+    for literal in literals {
+        let v = units::make_true(*literal, assignment);
         end = units::past(end, v);
-        i += 1;
     }
     end
 }
@@ -78,18 +76,10 @@ fn settle(nogoods: &[i32], rounds: usize, assignment: &mut [u8; ENTRIES]) -> Swe
     requires size { length assignment.old ≡ entries }
     ensures { Settles nogoods.now rounds assignment.old assignment.new result }
 {
-    let mut left = rounds;
-    while 0 < left {
+    for round in 0..rounds {
         let swept = sweep(nogoods, assignment);
-        left -= 1;
-        match swept {
-            Swept::Refuted => {
-                return Swept::Refuted;
-            }
-            Swept::Same => {
-                return Swept::Same;
-            }
-            Swept::Changed => {}
+        if swept != Swept::Changed {
+            return swept;
         }
     }
     Swept::Changed
@@ -100,7 +90,7 @@ fn release(assignment: &mut [u8], end: usize)
     requires { (end ≤ length assignment.old) × BlankFrom end assignment.old }
     ensures { assignment.new ≡ replicate (length assignment.old) 0 }
 {
-    words::zero_bytes(&mut assignment[..end]);
+    words::zero_all(&mut assignment[..end]);
 }
 
 // What the replay leaves: sweeps until nothing changes. Each before the last one assigns a variable, so that one more than there are entries is enough.
@@ -111,12 +101,8 @@ fn exhaust(nogoods: &[i32], assignment: &mut [u8; ENTRIES]) -> bool
     ensures free { assignment.new ≡ replicate entries 0 }
 {
     let swept = settle(nogoods, ENTRIES + 1, assignment);
-    words::zero_bytes(assignment);
-    match swept {
-        Swept::Refuted => true,
-        Swept::Same => false,
-        Swept::Changed => false,
-    }
+    words::zero_all(assignment);
+    swept == Swept::Refuted
 }
 
 // The replay, and sweeps where that comes to no conflict, from an assignment whose entries from an end on are free. All are free afterwards.
@@ -129,11 +115,11 @@ fn propagate(nogoods: &[i32], index: &[u32], end: usize, assignment: &mut [u8; E
     ensures free { assignment.new ≡ replicate entries 0 }
 {
     match replay::replay(nogoods, index, end, assignment) {
-        Replayed::Clashing(last) => {
+        Some(last) => {
             release(assignment, last);
             true
         }
-        Replayed::Open => exhaust(nogoods, assignment),
+        None => exhaust(nogoods, assignment),
     }
 }
 

@@ -14,31 +14,22 @@ use nogoods::chains::{PROVED, WORDS};
 use search::{FIRST, MOST, PATH};
 use words::ENTRIES;
 
-// What the path came to: a conflict, with every entry from an end on free; or none.
-#[derive(Drop)]
-pub enum Replayed {
-    Clashing(usize),
-    Open,
-}
-
 // A record starts at x, by its mark.
 fn is_start(index: &[u32], m: usize, x: usize) -> bool
     requires { Roomy m index.now }
     ensures { result ≡ true → (x < reach m) × (0 < get_or index.now (m + x) 0) }
 {
-    if WORDS * m <= x {
-        return false;
-    }
-    0 < index[m + x]
+    x < WORDS * m && 0 < index[m + x]
 }
 
-// The nogoods at the places of the path, one after another, from an assignment whose entries from an end on are free. Whether that comes to a conflict.
+// The nogoods at the places of the path, one after another, from an assignment whose entries from an end on are free. If that comes to a conflict, an
+// end from which on all entries are free.
 pub fn replay(
     nogoods: &[i32],
     index: &[u32],
     start: usize,
     assignment: &mut [u8; ENTRIES],
-) -> Replayed
+) -> Option<usize>
     requires encoded { (stored : List Stored) × Encodes nogoods.now stored }
     requires index { Marked (scale_of (length index.now)) nogoods.now index.now }
     requires size { length assignment.old ≡ entries }
@@ -47,19 +38,16 @@ pub fn replay(
 {
     let m = chains::scale_of(index.len());
     if m == 0 {
-        return Replayed::Open;
+        return None;
     }
     let at = PROVED * m + 1;
     let mut end = start;
-    let mut k = index[at + FIRST] as usize;
-    while k < MOST {
+    for k in index[at + FIRST] as usize..MOST {
         let x = index[at + PATH + k] as usize;
-        k += 1;
         if is_start(index, m, x) {
-            let given = units::derive_at(nogoods, x, assignment);
-            match given {
+            match units::derive_at(nogoods, x, assignment) {
                 Derived::Conflicting => {
-                    return Replayed::Clashing(end);
+                    return Some(end);
                 }
                 Derived::Assigned(v) => {
                     end = units::past(end, v);
@@ -68,5 +56,5 @@ pub fn replay(
             }
         }
     }
-    Replayed::Open
+    None
 }

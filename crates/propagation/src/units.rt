@@ -10,7 +10,7 @@ use nogoods::records;
 use words::ENTRIES;
 
 // A literal under an assignment.
-#[derive(Drop)]
+#[derive(Clone, Copy, PartialEq, Eq)]
 enum Value {
     True,
     False,
@@ -18,7 +18,7 @@ enum Value {
 }
 
 // A nogood under an assignment: all its literals are true; all but the one at an index, which is free; nothing follows.
-#[derive(Drop)]
+#[derive(Clone, Copy, PartialEq, Eq)]
 enum Look {
     All,
     Unit(usize),
@@ -26,14 +26,14 @@ enum Look {
 }
 
 // What one nogood gave: a conflict; a variable that is assigned now; nothing.
-#[derive(Drop)]
+#[derive(Clone, Copy, PartialEq, Eq)]
 pub enum Derived {
     Conflicting,
     Assigned(usize),
     Nothing,
 }
 
-// The entry of its variable that makes a literal true.
+// The entry of its variable that makes a literal true. An entry is a byte, 0, 1 or 2, and no enum: the assignment is memory that is lent.
 fn entry_of(word: i32) -> u8
     ensures { result ≡ entry word }
 {
@@ -74,7 +74,7 @@ pub fn past(end: usize, v: usize) -> usize
     requires { (end ≤ entries) × (v < entries) }
     ensures { (end ≤ result) × ((v < result) × (result ≤ entries)) }
 {
-    if end <= v { v + 1 } else { end }
+    end.max(v + 1)
 }
 
 // A look at a nogood's literals under an assignment.
@@ -82,29 +82,25 @@ fn look_at(literals: &[i32], assignment: &[u8; ENTRIES]) -> Look
     requires { Literals literals.now }
     ensures { Looked assignment.now literals.now result }
 {
-    let mut one = literals.len();
-    let mut i = 0;
-    while i < literals.len() {
-        let j = i;
-        let value = value_of(literals[j], assignment);
-        i += 1;
-        match value {
+    let mut one = None;
+    for j in 0..literals.len() {
+        match value_of(literals[j], assignment) {
             Value::True => {}
             Value::False => {
                 return Look::Idle;
             }
             Value::Free => {
-                if one < j {
+                if one.is_some() {
                     return Look::Idle;
                 }
-                one = j;
+                one = Some(j);
             }
         }
     }
-    if one < literals.len() {
-        return Look::Unit(one);
+    match one {
+        Some(j) => Look::Unit(j),
+        None => Look::All,
     }
-    Look::All
 }
 
 // One nogood's part: where all its literals but one are true and that one is free, its complement becomes true.

@@ -31,6 +31,7 @@ use Rattle.derivation.proofs.Outcomes.{Then, if_yes, if_no, if-line}
 use Rattle.merging.proofs.Runs.{Named-well, start-well, steps-keep}
 use Rattle.merging.proofs.Merged.{named-all, body-cases}
 use Rattle.renaming.specs.Standing.{is_constraint, HalfOf, names_added, name_after, is_gone, standing, all_standing}
+use Rattle.drupe.specs.declared.ProofFault.TheVariants.{Malformed, UnknownVariable, KnownName, NoUnnamedBody, NoCompletion}
 
 -- A list of one literal is that list ascending
 
@@ -174,7 +175,7 @@ module _ (N : ℕ) (P : List Rule) (x : ℤ) (f : ℕ → ℕ) (bodies : List (L
     step-agrees : (t : Step) → ((y : Named) → y ∈ named_by t z.named → marked shared y.name ≡ is_among bodies y.body)
         → Then (λ v. Agrees z name t.letter t.numbers) (step N (demanding P x) z t)
     step-agrees t s =
-        if_no (λ v. Agrees z name t.letter t.numbers) (has-decides (pos 0) t.numbers) _ 22
+        if_no (λ v. Agrees z name t.letter t.numbers) (has-decides (pos 0) t.numbers) _ Malformed
         (λ nz. if-line (λ v. Agrees z name t.letter t.numbers) t.letter t.numbers _ (λ _ g u. by t.letter t.numbers nz g s))
       where
         by : (c : Letter) (zs : List ℤ) → ¬ (pos 0 ∈ zs) → T (signed (signs_of c) zs)
@@ -183,15 +184,15 @@ module _ (N : ℕ) (P : List Rule) (x : ℤ) (f : ℕ → ℕ) (bodies : List (L
         by Addition L nz g s = always (Agrees z name Addition L) (by_letter N (demanding P x) z Addition L) (refl, A)
         by Body [] nz g s = tt
         by Body (pos m ∷ L) nz g s =
-            if_yes (λ v. Agrees z name Body (pos m ∷ L)) (itself (all_known N z L)) _ 26 (λ a.
-            if_no (λ v. Agrees z name Body (pos m ∷ L)) (itself (is_known N z m)) _ 27 (λ k.
-            if_yes (λ v. Agrees z name Body (pos m ∷ L)) (and-decides (itself (is_body (demanding P x) (ascending L))) (not-decides (itself (has_name z (ascending L))))) _ 28
+            if_yes (λ v. Agrees z name Body (pos m ∷ L)) (itself (all_known N z L)) _ UnknownVariable (λ a.
+            if_no (λ v. Agrees z name Body (pos m ∷ L)) (itself (is_known N z m)) _ KnownName (λ k.
+            if_yes (λ v. Agrees z name Body (pos m ∷ L)) (and-decides (itself (is_body (demanding P x) (ascending L))) (not-decides (itself (has_name z (ascending L))))) _ NoUnnamedBody
             (λ q. body-agrees m L q.0 q.1 (s (record { name = m; body = ascending L }) (Memᴰ.head refl)))))
         by Body (negsuc m ∷ L) nz g s = absurd g
         by Completion [] nz g s = tt
         by Completion (n ∷ hs) nz g s =
-            if_yes (λ v. Agrees z name Completion (n ∷ hs)) (itself (all_known N z (n ∷ hs))) _ 26 (λ a.
-            if_yes (λ v. Agrees z name Completion (n ∷ hs)) (completion-decides (demanding P x) z n hs) _ 29
+            if_yes (λ v. Agrees z name Completion (n ∷ hs)) (itself (all_known N z (n ∷ hs))) _ UnknownVariable (λ a.
+            if_yes (λ v. Agrees z name Completion (n ∷ hs)) (completion-decides (demanding P x) z n hs) _ NoCompletion
             (λ c. completion-agrees n hs (variable-positive n (λ e. nz (Memᴰ.head (sym e)))) c))
         by Deletion L nz g s = always (Agrees z name Deletion L) (by_letter N (demanding P x) z Deletion L) (refl, A)
         by Extension [] nz g s = tt

@@ -10,6 +10,7 @@ use Rattle.words.proofs.Lists.{zero_one}
 use Rattle.drupe.specs.Lines.{LineAt, end, line, line_at}
 use Rattle.drupe.specs.Lines as Lines
 use Rattle.drupe.specs.Texts.{Step, StepsRead, steps, refused, after, steps_at, steps_within, steps_of}
+use Rattle.drupe.specs.declared.ProofFault.TheVariants.{TooLong}
 
 module _ (text : List ℕ) where
   -- the steps from the position on
@@ -28,7 +29,7 @@ module _ (text : List ℕ) where
   unfolding steps_within
   left-start {ts} e = by (ltb longest (length text)) e
     where
-      by : (b : Bool) → cond b (refused [] 21 0) (steps_at text (suc (length text)) 0 0) ≡ steps ts → Left 0 ts
+      by : (b : Bool) → cond b (refused [] TooLong 0) (steps_at text (suc (length text)) 0 0) ≡ steps ts → Left 0 ts
       by true e = absurd (zero_one (cc))
       by false e = record { turns = suc (length text); done = 0; read = e }
 

@@ -21,11 +21,9 @@ use Rattle.drupe.proofs.Lines.{passed-line}
 use Rattle.merging.specs.Merge.{renamed, addition, one}
 use Rattle.merging.proofs.Propagates.{renamed-variable}
 use Rattle.renaming.specs.Writing.{Writes}
-use Rattle.renaming.specs.Standing.{turn_of, is_a, first_name, names_added, name_after, is_gone, standing, all_standing, Turned}
-use Rattle.renaming.specs.declared.lines.Wrote.{Wrote}
-use Rattle.renaming.specs.declared.lines.Wrote.TheVariants as Written
-use Rattle.renaming.specs.declared.lines.HalfTurn.{HalfTurn}
-use Rattle.renaming.specs.declared.lines.HalfTurn.TheVariants.{Ends, Over, Goes}
+use Rattle.renaming.specs.Standing.{is_a, first_name, names_added, name_after, is_gone, standing, all_standing, Turned}
+use Rattle.std.proofs.Common.{Option, Some, None}
+use Rattle.renaming.specs.declared.lines.HalfLine.{HalfLine}
 use Rattle.renaming.proofs.Positions.{Left, LeftBy, left-start, left_by}
 use Rattle.renaming.proofs.Written.{none_written, then-written, over-more}
 
@@ -46,7 +44,7 @@ module _ (text : List ℕ) where
     pub record Walking (ts : List Step) (output : List ℕ) (at name stop : ℕ) : Type 0 where
       pub rest : List Step
       pub left : Left text at rest
-      pub onward : (after : List ℕ) (r : Wrote) → Writes (all_standing x f shared has_body has_constraint name rest) output after stop r
+      pub onward : (after : List ℕ) (r : Option ℕ) → Writes (all_standing x f shared has_body has_constraint name rest) output after stop r
           → Writes (all_standing x f shared has_body has_constraint 0 ts) before after from r
 
     -- whatever the text's steps are
@@ -57,59 +55,62 @@ module _ (text : List ℕ) where
     walk_start ts e = record { rest = ts; left = left-start text e; onward = λ after r w. w }
 
     module _ {output : List ℕ} {at name stop : ℕ} (W : Walks output at name stop) (near : stop ≤ longest) (after : List ℕ) where
-      pub walk_ends : {r : HalfTurn} → r ≡ Ends → Turned x f shared has_body has_constraint name output after stop (line_at text at) r
-          → (ts : List Step) → steps_of text ≡ Texts.steps ts → Writes (all_standing x f shared has_body has_constraint 0 ts) before after from (Written.At stop)
+      pub walk_ends : {r : Option (Option HalfLine)} → r ≡ Some None → Turned x f shared has_body has_constraint name output after stop (line_at text at) r
+          → (ts : List Step) → steps_of text ≡ Texts.steps ts → Writes (all_standing x f shared has_body has_constraint 0 ts) before after from (Some stop)
       walk_ends e t ts q = by (line_at text at) refl (subst (Turned x f shared has_body has_constraint name output after stop (line_at text at)) e t)
         where
-          by : (l : LineAt) → line_at text at ≡ l → Turned x f shared has_body has_constraint name output after stop l Ends
-              → Writes (all_standing x f shared has_body has_constraint 0 ts) before after from (Written.At stop)
+          by : (l : LineAt) → line_at text at ≡ l → Turned x f shared has_body has_constraint name output after stop l (Some None)
+              → Writes (all_standing x f shared has_body has_constraint 0 ts) before after from (Some stop)
           by end p t =
               let G = W ts q in
-              G.onward after (Written.At stop) (rw (told G.left p, t) (none_written output stop near))
+              G.onward after (Some stop) (rw (told G.left p, t) (none_written output stop near))
           by (Lines.refused k) p t = let G = W ts q in absurd (told G.left p)
           by (line c zs to) p t = absurd t
 
-      pub walk-over : {r : HalfTurn} → r ≡ Over → Turned x f shared has_body has_constraint name output after stop (line_at text at) r
-          → (ts : List Step) → steps_of text ≡ Texts.steps ts → Writes (all_standing x f shared has_body has_constraint 0 ts) before after from Written.Over
+      pub walk-over : {r : Option (Option HalfLine)} → r ≡ None → Turned x f shared has_body has_constraint name output after stop (line_at text at) r
+          → (ts : List Step) → steps_of text ≡ Texts.steps ts → Writes (all_standing x f shared has_body has_constraint 0 ts) before after from None
       walk-over e t ts q = by (line_at text at) refl (subst (Turned x f shared has_body has_constraint name output after stop (line_at text at)) e t)
         where
-          by : (l : LineAt) → line_at text at ≡ l → Turned x f shared has_body has_constraint name output after stop l Over
-              → Writes (all_standing x f shared has_body has_constraint 0 ts) before after from Written.Over
+          by : (l : LineAt) → line_at text at ≡ l → Turned x f shared has_body has_constraint name output after stop l None
+              → Writes (all_standing x f shared has_body has_constraint 0 ts) before after from None
           by end p t = absurd t
           by (Lines.refused k) p t = absurd t
           by (line c zs to) p t =
               let G = W ts q in
               let s = told G.left p in
-              G.onward after Written.Over (rw s.1 (over-more (standing x f shared has_body has_constraint name c zs) _ output after after stop t))
+              G.onward after None (rw s.1 (over-more (standing x f shared has_body has_constraint name c zs) _ output after after stop t))
 
-      pub walk-on : {r : HalfTurn} (n m e : ℕ) → r ≡ Goes n m e → Turned x f shared has_body has_constraint name output after stop (line_at text at) r
-          → Walks after n m e × ((e ≤ longest) × ((at < n) × (n ≤ length text)))
-      walk-on n m e g t = by (line_at text at) refl (subst (Turned x f shared has_body has_constraint name output after stop (line_at text at)) g t)
+      pub walk-on : {r : Option (Option HalfLine)} (u : HalfLine) → r ≡ Some (Some u) → Turned x f shared has_body has_constraint name output after stop (line_at text at) r
+          → Walks after u.next u.name u.end × ((u.end ≤ longest) × ((at < u.next) × (u.next ≤ length text)))
+      walk-on u g t = by (line_at text at) refl (subst (Turned x f shared has_body has_constraint name output after stop (line_at text at)) g t)
         where
-          by : (l : LineAt) → line_at text at ≡ l → Turned x f shared has_body has_constraint name output after stop l (Goes n m e)
-              → Walks after n m e × ((e ≤ longest) × ((at < n) × (n ≤ length text)))
+          by : (l : LineAt) → line_at text at ≡ l → Turned x f shared has_body has_constraint name output after stop l (Some (Some u))
+              → Walks after u.next u.name u.end × ((u.end ≤ longest) × ((at < u.next) × (u.next ≤ length text)))
           by end p t = absurd t
           by (Lines.refused k) p t = absurd t
           by (line c zs to) p (i, j, w) =
-              let u = passed-line text at p in
-              (rw (i, j) on, (w.2, (omega (arith, u.0, i), omega (arith, u.1, i))))
+              let b = passed-line text at p in
+              (rw (i, j) on, (w.2, (omega (arith, b.0, i), omega (arith, b.1, i))))
             where
-              on : Walks after to (name_after x name c zs) e
+              on : Walks after to (name_after x name c zs) u.end
               on ts q =
                   let G = W ts q in
                   let s = told G.left p in
                   record {
                     rest = s.0;
                     left = s.2;
-                    onward = λ later r k. G.onward later r (rw s.1 (then-written (standing x f shared has_body has_constraint name c zs) _ output after later stop e r w k));
+                    onward = λ later r k. G.onward later r (rw s.1 (then-written (standing x f shared has_body has_constraint name c zs) _ output after later stop u.end r w k));
                   }
 
--- a line that was read and written
+-- a line that was read and written, or went past a limit
 module _ (x : ℤ) (f : ℕ → ℕ) (shared : List ℕ) (has_body has_constraint : Bool) (name : ℕ) (before after : List ℕ) (at : ℕ) (c : Letter) (zs : List ℤ) (to : ℕ) where
-  pub turned-line : {l : LineAt} {m : ℕ} {r : HalfTurn} (w : Wrote) → l ≡ line c zs to → m ≡ name_after x name c zs → r ≡ turn_of to m w
+  pub turned-over : {l : LineAt} {r : Option (Option HalfLine)} {w : Option ℕ} → l ≡ line c zs to → r ≡ None → w ≡ None
       → Writes (standing x f shared has_body has_constraint name c zs) before after at w → Turned x f shared has_body has_constraint name before after at l r
-  turned-line (Written.At e) p i j k = rw (p, j) (refl, i, k)
-  turned-line Written.Over p i j k = rw (p, j) k
+  turned-over p j e k = rw (p, j) (rw e at k)
+
+  pub turned-on : {l : LineAt} {w : Option ℕ} (t : HalfLine) → l ≡ line c zs to → t.next ≡ to → t.name ≡ name_after x name c zs → w ≡ Some t.end
+      → Writes (standing x f shared has_body has_constraint name c zs) before after at w → Turned x f shared has_body has_constraint name before after at l (Some (Some t))
+  turned-on t p i j e k = rw p (i, j, rw e at k)
 
 -- What stands of a line, by the tests that are made
 

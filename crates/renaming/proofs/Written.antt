@@ -1,5 +1,6 @@
 -- Lines written one after another. Assumes nothing.
 use mathlib.Core.Path.{◌≡◌, refl, sym, ap, ap₂, ◌∙◌}
+use Rattle.std.proofs.Common.{Option, Some, None}
 use mathlib.Core.Logic.{inl, inr}
 use mathlib.Core.Bool.{Bool, true, false, not, ◌&&◌, ◌||◌, true≢false}
 use mathlib.Core.List.{List, [], ◌∷◌, ◌++◌, append-nil}
@@ -21,8 +22,6 @@ use Rattle.drupe.specs.Texts.{Step, step_text, text_of}
 use Rattle.drupe.proofs.Texts.{text-append}
 use Rattle.merging.specs.Merge.{addition, one, fits, all_fit}
 use Rattle.renaming.specs.Writing.{Writes}
-use Rattle.renaming.specs.declared.lines.Wrote.{Wrote}
-use Rattle.renaming.specs.declared.lines.Wrote.TheVariants.{At, Over}
 
 -- the text of one step
 text-one : (c : Letter) (zs : List ℤ) → text_of (one c zs) ≡ step_text (record { letter = c; numbers = zs })
@@ -41,23 +40,23 @@ module _ (c : Letter) (zs : List ℤ) (inside : any_outside zs ≡ false) where
   fits_by b e = ap₂ (λ x y. not (x || y) && true) inside e
 
   -- a line with too many numbers
-  pub one-long : (before after : List ℕ) (at : ℕ) → most_numbers < length zs → Writes (one c zs) before after at Over
+  pub one-long : (before after : List ℕ) (at : ℕ) → most_numbers < length zs → Writes (one c zs) before after at None
   one-long before after at h = ap (λ b. b && leb (at + length (text_of (one c zs))) longest) (fits_by true (lt-ltb _ _ h))
 
   module _ {before after : List ℕ} {at end : ℕ} (few : length zs ≤ most_numbers) (p : Put (step_text (record { letter = c; numbers = zs })) before after at end) where
     put-line : Put (text_of (one c zs)) before after at end
     put-line = rw (text-one c zs) p
 
-    pub one_written : end ≤ longest → Writes (one c zs) before after at (At end)
+    pub one_written : end ≤ longest → Writes (one c zs) before after at (Some end)
     one_written l = (put-line, fits_by false (le-ltb _ _ few), l)
 
-    pub one-past : longest < end → Writes (one c zs) before after at Over
+    pub one-past : longest < end → Writes (one c zs) before after at None
     one-past l =
         let h : longest < at + length (text_of (one c zs)) = omega (arith, l, put-line.ends) in
         and-false (all_fit (one c zs)) (above h)
 
 -- nothing is written
-pub none_written : (before : List ℕ) (at : ℕ) → at ≤ longest → Writes [] before before at (At at)
+pub none_written : (before : List ℕ) (at : ℕ) → at ≤ longest → Writes [] before before at (Some at)
 unfolding text_of
 none_written before at h = (put-none before at, refl, h)
 
@@ -66,10 +65,10 @@ fit-both [] us a b = b
 fit-both (t ∷ ts) us a b = and_both (and_left (fits t) (all_fit ts) a) (fit-both ts us (and_right (fits t) (all_fit ts) a) b)
 
 -- lines after lines
-pub then-written : (ts us : List Step) (before between after : List ℕ) (at from : ℕ) (r : Wrote) → Writes ts before between at (At from) → Writes us between after from r
+pub then-written : (ts us : List Step) (before between after : List ℕ) (at from : ℕ) (r : Option ℕ) → Writes ts before between at (Some from) → Writes us between after from r
     → Writes (ts ++ us) before after at r
-then-written ts us before between after at from (At end) (p, f, h) (q, g, k) = (rw (text-append ts us) (put_on p q), fit-both ts us f g, k)
-then-written ts us before between after at from Over (p, f, h) o =
+then-written ts us before between after at from (Some end) (p, f, h) (q, g, k) = (rw (text-append ts us) (put_on p q), fit-both ts us f g, k)
+then-written ts us before between after at from None (p, f, h) o =
     rw (text-append ts us, length-append, fit-front ts us f, sum) o
   where
     sum : at + (length (text_of ts) + length (text_of us)) ≡ from + length (text_of us)
@@ -80,7 +79,7 @@ then-written ts us before between after at from Over (p, f, h) o =
     fit-front (t ∷ ts) us e = rw (and_left (fits t) (all_fit ts) e) (fit-front ts us (and_right (fits t) (all_fit ts) e))
 
 -- what does not fit does not with more lines either
-pub over-more : (ts us : List Step) (before after later : List ℕ) (at : ℕ) → Writes ts before after at Over → Writes (ts ++ us) before later at Over
+pub over-more : (ts us : List Step) (before after later : List ℕ) (at : ℕ) → Writes ts before after at None → Writes (ts ++ us) before later at None
 over-more ts us before after later at o = by (all_fit ts) (all_fit (ts ++ us)) (fit-more ts us) o
   where
     fit-more : (ts us : List Step) → all_fit (ts ++ us) ≡ true → all_fit ts ≡ true

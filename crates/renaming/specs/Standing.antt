@@ -1,7 +1,7 @@
 -- What stands of one half's lines, as `write_half` judges them: by what it is told of the added constraint's body, the marks of shared names,
 -- and the name that the half gave to that body so far. proofs/Agrees.antt joins it to `half` of crate merging.
 -- Assumes nothing.
-use Rattle.std.specs.Prelude.{◌≡◌, Bool, true, false, cond, not, ◌&&◌, List, [], ◌∷◌, ◌++◌, map, ℕ, eqb, ℤ, pos, length, get_or}
+use Rattle.std.specs.Prelude.{◌≡◌, Bool, true, false, cond, not, ◌&&◌, List, [], ◌∷◌, ◌++◌, map, ℕ, Option, Some, None, eqb, ℤ, pos, length, get_or}
 use Rattle.words.specs.Lists.{◌∈◌, any}
 use Rattle.words.specs.Literals.{variable, complement, same_list}
 use Rattle.marks.specs.Marks.{marked}
@@ -15,15 +15,7 @@ use Rattle.derivation.specs.States.{Named, State, start}
 use Rattle.derivation.specs.Steps.{next, steps}
 use Rattle.merging.specs.Merge.{demanding, renamed, named_in, is_body, is_among, addition, one}
 use Rattle.renaming.specs.Writing.{Writes}
-use Rattle.renaming.specs.declared.lines.Wrote as Wrote
-use Rattle.renaming.specs.declared.lines.Wrote.TheVariants as Written
-use Rattle.renaming.specs.declared.lines.HalfTurn.{HalfTurn}
-use Rattle.renaming.specs.declared.lines.HalfTurn.TheVariants.{Ends, Over, Goes}
-
--- a turn, of the position after its line, the name after it and what was written
-abbrev pub turn_of : (next name : ℕ) → Wrote.Wrote → HalfTurn
-turn_of n m (Written.At e) = Goes n m e
-turn_of n m Written.Over = Over
+use Rattle.renaming.specs.declared.lines.HalfLine.{HalfLine}
 
 -- a normal rule without heads has the body
 abbrev pub is_constraint : List Rule → List ℤ → Bool
@@ -97,13 +89,14 @@ module _ (x : ℤ) (f : ℕ → ℕ) (shared : List ℕ) (has_body has_constrain
 
   -- what a turn of the walk leaves of what stands at its position in the text
   module _ (name : ℕ) (before after : List ℕ) (at : ℕ) where
-    abbrev pub Turned : LineAt → HalfTurn → Type 0
-    Turned end Ends = after ≡ before
-    Turned end Over = ⊥
-    Turned end (Goes n m e) = ⊥
-    Turned (refused k) Ends = Unit {0}
-    Turned (refused k) Over = ⊥
-    Turned (refused k) (Goes n m e) = ⊥
-    Turned (line c zs to) Ends = ⊥
-    Turned (line c zs to) Over = Writes (standing name c zs) before after at Written.Over
-    Turned (line c zs to) (Goes n m e) = (n ≡ to) × (m ≡ name_after x name c zs) × Writes (standing name c zs) before after at (Written.At e)
+    abbrev pub Turned : LineAt → Option (Option HalfLine) → Type 0
+    Turned end None = ⊥
+    Turned end (Some None) = after ≡ before
+    Turned end (Some (Some t)) = ⊥
+    Turned (refused k) None = ⊥
+    Turned (refused k) (Some None) = Unit {0}
+    Turned (refused k) (Some (Some t)) = ⊥
+    Turned (line c zs to) None = Writes (standing name c zs) before after at None
+    Turned (line c zs to) (Some None) = ⊥
+    Turned (line c zs to) (Some (Some t)) =
+        (t.next ≡ to) × (t.name ≡ name_after x name c zs) × Writes (standing name c zs) before after at (Some t.end)

@@ -9,48 +9,37 @@ ghost use Rattle.aspif.specs.Rules.{Rule};
 ghost use Rattle.drupe.specs.Lines.{line_at};
 ghost use Rattle.drupe.specs.Texts.{Step};
 ghost use Rattle.merging.specs.Merge.{addition, half, one, renamed};
-ghost use Rattle.renaming.specs.Standing.{HalfOf, is_a, is_b, names_added, name_after, is_gone, standing, turn_of, Turned};
+ghost use Rattle.renaming.specs.Standing.{HalfOf, is_a, is_b, names_added, name_after, is_gone, standing, Turned};
 ghost use Rattle.renaming.specs.Writing.{Writes};
 
-use drupe::{LineAnswer, reader, writing};
+use drupe::{reader, writing};
 use text::Letter;
 use words::{LONGEST, MOST_NUMBERS};
 
-// The position after what was written; or a line or the text is over its limit.
+// The position after a line that was read, the name of the added constraint's body so far, and the position after what
+// was written.
 #[derive(Drop)]
-pub enum Wrote {
-    At(usize),
-    Over,
-}
-
-// What the line at a position comes to: the text's end, a limit that is passed, or the position after the line, the name of the added
-// constraint's body so far, and the position after what was written.
-#[derive(Drop)]
-pub enum HalfTurn {
-    Ends,
-    Over,
-    Goes {
-        next: usize,
-        name: usize,
-        end: usize,
-    },
+pub struct HalfLine {
+    pub next: usize,
+    pub name: usize,
+    pub end: usize,
 }
 
 // A variable's new name; 0 past the array's end.
 fn name_of(new: &[u16], v: usize) -> u16
     ensures { result ≡ get_or new.now v 0 }
 {
-    if v < new.len() {
-        return new[v];
+    match new.get(v) {
+        Some(name) => *name,
+        None => 0,
     }
-    0
 }
 
 // A literal under new names.
 fn rename_word(new: &[u16], word: i32) -> i32
     ensures { result ≡ renamed (λ v. get_or new.now v 0) word }
 {
-    let name = name_of(new, words::variable_of(word)) as i32;
+    let name = i32::from(name_of(new, words::variable_of(word)));
     if word < 0 {
         return 0 - name;
     }
@@ -61,31 +50,29 @@ fn rename_word(new: &[u16], word: i32) -> i32
 pub fn rename(new: &[u16], numbers: &mut [i32])
     ensures { numbers.new ≡ map (renamed (λ v. get_or new.now v 0)) numbers.old }
 {
-    let mut i = 0;
-    while i < numbers.len() {
-        numbers[i] = rename_word(new, numbers[i]);
-        i += 1;
+    for n in numbers {
+        *n = rename_word(new, *n);
     }
 }
 
-// A line, from a position on.
-pub fn write_line(letter: Letter, numbers: &[i32], output: &mut [u8], at: usize) -> Wrote
+// A line, from a position on: the position after it; none where it or the text is over its limit. So too below.
+pub fn write_line(letter: Letter, numbers: &[i32], output: &mut [u8], at: usize) -> Option<usize>
     requires at { at ≤ longest }
     requires numbers { any_outside numbers.now ≡ false }
     ensures { Writes (one letter numbers.now) output.old output.new at result }
 {
     if MOST_NUMBERS < numbers.len() {
-        return Wrote::Over;
+        return None;
     }
     let end = writing::write_step(letter, numbers, output, at);
     if LONGEST < end {
-        return Wrote::Over;
+        return None;
     }
-    Wrote::At(end)
+    Some(end)
 }
 
 // An `a` line with the literal x behind its numbers.
-fn write_widened(numbers: &[i32], x: i32, output: &mut [u8], at: usize) -> Wrote
+fn write_widened(numbers: &[i32], x: i32, output: &mut [u8], at: usize) -> Option<usize>
     requires at { at ≤ longest }
     requires numbers { any_outside numbers.now ≡ false }
     requires literal { variable x ≤ largest }
@@ -93,7 +80,7 @@ fn write_widened(numbers: &[i32], x: i32, output: &mut [u8], at: usize) -> Wrote
 {
     let count = numbers.len();
     if MOST_NUMBERS <= count {
-        return Wrote::Over;
+        return None;
     }
     let mut row = [0; MOST_NUMBERS];
     words::copy(&mut row, numbers);
@@ -102,14 +89,14 @@ fn write_widened(numbers: &[i32], x: i32, output: &mut [u8], at: usize) -> Wrote
 }
 
 // An `a` line of the half with the literal x: skipped, as it stands, or widened.
-fn write_addition(numbers: &[i32], x: i32, output: &mut [u8], at: usize) -> Wrote
+fn write_addition(numbers: &[i32], x: i32, output: &mut [u8], at: usize) -> Option<usize>
     requires at { at ≤ longest }
     requires numbers { any_outside numbers.now ≡ false }
     requires literal { variable x ≤ largest }
     ensures { Writes (addition x numbers.now) output.old output.new at result }
 {
     if words::contains(numbers, words::complement_of(x)) {
-        return Wrote::At(at);
+        return Some(at);
     }
     if words::contains(numbers, x) {
         return write_line(Letter::Addition, numbers, output, at);
@@ -121,30 +108,14 @@ fn write_addition(numbers: &[i32], x: i32, output: &mut [u8], at: usize) -> Wrot
 fn is_addition(letter: Letter) -> bool
     ensures { result ≡ is_a letter }
 {
-    match letter {
-        Letter::Addition => true,
-        Letter::Body => false,
-        Letter::Completion => false,
-        Letter::Deletion => false,
-        Letter::Extension => false,
-        Letter::Loop => false,
-        Letter::Support => false,
-    }
+    matches!(letter, Letter::Addition)
 }
 
 // A `b` line.
 fn is_body(letter: Letter) -> bool
     ensures { result ≡ is_b letter }
 {
-    match letter {
-        Letter::Addition => false,
-        Letter::Body => true,
-        Letter::Completion => false,
-        Letter::Deletion => false,
-        Letter::Extension => false,
-        Letter::Loop => false,
-        Letter::Support => false,
-    }
+    matches!(letter, Letter::Body)
 }
 
 // A `b` line of the body of the constraint that demands x.
@@ -218,7 +189,7 @@ fn write_standing(
     name: usize,
     output: &mut [u8],
     at: usize,
-) -> Wrote
+) -> Option<usize>
     requires at { at ≤ longest }
     requires literal { variable x ≤ largest }
     requires new { (v : ℕ) → get_or new.now v 0 ≤ largest }
@@ -226,7 +197,7 @@ fn write_standing(
         numbers.old) output.old output.new at result }
 {
     if is_gone(letter, numbers, shared, has_constraint, name) {
-        return Wrote::At(at);
+        return Some(at);
     }
     let lacking = names_added(letter, numbers, x) & !has_body;
     rename(new, numbers);
@@ -236,17 +207,7 @@ fn write_standing(
     write_line(letter_of(letter, lacking), numbers, output, at)
 }
 
-// A turn that wrote a line.
-fn turn_of(next: usize, name: usize, wrote: Wrote) -> HalfTurn
-    ensures { result ≡ turn_of next name wrote }
-{
-    match wrote {
-        Wrote::At(end) => HalfTurn::Goes { next, name, end },
-        Wrote::Over => HalfTurn::Over,
-    }
-}
-
-// The line at a position of the text, read into the two rows, and what stands of it.
+// The line at a position of the text, read into the two rows, and what stands of it; none of it at the text's end.
 fn write_at(
     text: &[u8],
     position: usize,
@@ -261,7 +222,7 @@ fn write_at(
     name: usize,
     output: &mut [u8],
     at: usize,
-) -> HalfTurn
+) -> Option<Option<HalfLine>>
     requires at { at ≤ longest }
     requires literal { variable x ≤ largest }
     requires new { (v : ℕ) → get_or new.now v 0 ≤ largest }
@@ -270,31 +231,31 @@ fn write_at(
     ensures { Turned x (λ v. get_or new.now v 0) shared.now has_body has_constraint name
         output.old output.new at (line_at text.now position) result }
 {
-    let answer = reader::step_at(text, position, classes, numbers, sorted);
-    match answer {
-        LineAnswer::End => HalfTurn::Ends,
-        LineAnswer::Refused(_) => HalfTurn::Ends,
-        LineAnswer::Line {
-            letter,
-            count,
-            next,
-        } => {
-            let named = name_after(letter, &numbers[..count], x, name);
-            let wrote = write_standing(
-                letter,
-                &mut numbers[..count],
-                x,
-                new,
-                shared,
-                has_body,
-                has_constraint,
-                name,
-                output,
-                at,
-            );
-            turn_of(next, named, wrote)
-        }
-    }
+    let read = match reader::step_at(text, position, classes, numbers, sorted) {
+        Err(_) => return Some(None),
+        Ok(read) => read,
+    };
+    let Some(line) = read else {
+        return Some(None);
+    };
+    let named = name_after(line.letter, &numbers[..line.count], x, name);
+    let end = write_standing(
+        line.letter,
+        &mut numbers[..line.count],
+        x,
+        new,
+        shared,
+        has_body,
+        has_constraint,
+        name,
+        output,
+        at,
+    )?;
+    Some(Some(HalfLine {
+        next: line.next,
+        name: named,
+        end,
+    }))
 }
 
 // The lines of the half whose literal is x, under new names, from a position on.
@@ -307,7 +268,7 @@ pub fn write_half(
     has_constraint: bool,
     output: &mut [u8],
     at: usize,
-) -> Wrote
+) -> Option<usize>
     requires at { at ≤ longest }
     requires literal { (1 ≤ variable x) × (variable x ≤ largest) }
     requires new { (v : ℕ) → get_or new.now v 0 ≤ largest }
@@ -321,33 +282,24 @@ pub fn write_half(
     let mut position = 0;
     let mut name = 0;
     let mut end = at;
-    loop {
-        match write_at(
-            text,
-            position,
-            &classes,
-            &mut numbers,
-            &mut sorted,
-            x,
-            new,
-            shared,
-            has_body,
-            has_constraint,
-            name,
-            output,
-            end,
-        ) {
-            HalfTurn::Ends => return Wrote::At(end),
-            HalfTurn::Over => return Wrote::Over,
-            HalfTurn::Goes {
-                next,
-                name: n,
-                end: e,
-            } => {
-                position = next;
-                name = n;
-                end = e;
-            }
-        }
+    while let Some(line) = write_at(
+        text,
+        position,
+        &classes,
+        &mut numbers,
+        &mut sorted,
+        x,
+        new,
+        shared,
+        has_body,
+        has_constraint,
+        name,
+        output,
+        end,
+    )? {
+        position = line.next;
+        name = line.name;
+        end = line.end;
     }
+    Some(end)
 }

@@ -14,12 +14,13 @@ ghost use Rattle.heads.specs.Heads.{Indexed};
 ghost use Rattle.steps.specs.Held.{PassedLine};
 ghost use Rattle.renaming.specs.Renames.{Halves, RenamedAll, NextFree, OtherNamed, BodyNamed, LineRenamed, rename_turn, TurnRenamed, TurnBounds};
 
-use drupe::{LineAnswer, reader};
+use drupe::reader;
 use text::Letter;
 use words::{ENTRIES, LARGEST, MOST_NUMBERS};
 
-// What the line at a position comes to: the text's end, a new name above the largest variable, or the position after the line and the
-// number from which on new names are looked for.
+// What the line at a position comes to: the text's end, a new name above the largest variable, or the position after
+// the line and the number from which on new names are looked for.
+// An Option in an Option is no plainer: `rename_all` answers yes or no, so no `?` would take it.
 #[derive(Drop)]
 pub enum RenameTurn {
     Ends,
@@ -32,10 +33,8 @@ pub fn keep_all(new: &mut [u16])
     requires { length new.old ≡ entries }
     ensures { (u : ℕ) → u ≤ largest → get_or new.new u 0 ≡ u }
 {
-    let mut i = 0;
-    while i < new.len() {
+    for i in 0..new.len() {
         new[i] = i as u16;
-        i += 1;
     }
 }
 
@@ -44,15 +43,9 @@ fn next_free(known1: &[u8], known2: &[u8], from: usize) -> usize
     requires { from ≤ entries }
     ensures { NextFree known1.now known2.now from result }
 {
-    let mut n = from;
-    while n <= LARGEST {
-        if marks::is_marked(known1, n) | marks::is_marked(known2, n) {
-            n += 1;
-        } else {
-            return n;
-        }
-    }
-    n
+    (from..ENTRIES)
+        .find(|n| !(marks::is_marked(known1, *n) | marks::is_marked(known2, *n)))
+        .unwrap_or(ENTRIES)
 }
 
 // A name that no body has which the first half names: where the first half knows it, it becomes the next free number. Where new names are
@@ -195,32 +188,28 @@ fn rename_at(
         → TurnRenamed known1.now known2.now cursor new.old new.new
         shared.old shared.new (expand ws) called (line_at second.now at) result }
 {
-    let answer = reader::step_at(second, at, classes, numbers, sorted);
-    match answer {
-        LineAnswer::End => RenameTurn::Ends,
-        LineAnswer::Refused(_) => RenameTurn::Over,
-        LineAnswer::Line {
-            letter,
-            count,
-            next,
-        } => {
-            let from = rename_line(
-                letter,
-                &mut numbers[..count],
-                table,
-                rules,
-                lookup,
-                known1,
-                known2,
-                names,
-                bodies,
-                cursor,
-                new,
-                shared,
-            );
-            turn_to(next, from)
-        }
-    }
+    let read = match reader::step_at(second, at, classes, numbers, sorted) {
+        Err(_) => return RenameTurn::Over,
+        Ok(read) => read,
+    };
+    let Some(line) = read else {
+        return RenameTurn::Ends;
+    };
+    let from = rename_line(
+        line.letter,
+        &mut numbers[..line.count],
+        table,
+        rules,
+        lookup,
+        known1,
+        known2,
+        names,
+        bodies,
+        cursor,
+        new,
+        shared,
+    );
+    turn_to(line.next, from)
 }
 
 // The new names of the second half's names, and marks of those whose bodies the first half names. False where a new name is above the

@@ -22,6 +22,7 @@ use Rattle.nogoods.specs.Store.{Stored, words_for}
 use Rattle.steps.specs.After.{stored_after}
 use Rattle.runs.specs.Course.{Course, stopped, then_stopped, fitting, run_steps, run_read, course_within}
 use Rattle.runs.specs.Claims.{Runs, ends, unread, unaccepted, full, good, StepByStep, SameCourseWithin}
+use Rattle.drupe.specs.declared.ProofFault.TheVariants.{StoreFull}
 
 -- what is stored once step t, the next after n, left the state z
 abbrev pub stored_next : (size n : ℕ) → List Stored → Step → State → List Stored
@@ -31,7 +32,7 @@ module _ (N : ℕ) (P : List Rule) (size : ℕ) where
   -- what a step comes to; `on` goes on with the state that it left
   abbrev step_then : (State → Course) → ℕ → Outcome → Course
   step_then on n (Steps.refused k) = stopped k (n + 1)
-  step_then on n (next z) = cond (fitting size z) (on z) (stopped 34 (n + 1))
+  step_then on n (next z) = cond (fitting size z) (on z) (stopped StoreFull (n + 1))
 
   -- the course of a step and of those that were read after it
   pub run-after : (n : ℕ) (z : State) (b : List Stored) (t : Step) (o : StepsRead)
@@ -40,19 +41,19 @@ module _ (N : ℕ) (P : List Rule) (size : ℕ) where
     where
       by : (o : Outcome) → elim o [
         | Steps.refused k ↦ stopped k (n + 1)
-        | next z' ↦ cond (fitting size z') (run_steps N P size (n + 1) z' (stored_next size n b t z') ts) (stopped 34 (n + 1))
+        | next z' ↦ cond (fitting size z') (run_steps N P size (n + 1) z' (stored_next size n b t z') ts) (stopped StoreFull (n + 1))
       ] ≡ step_then (λ z'. run_steps N P size (n + 1) z' (stored_next size n b t z') ts) n o
       by (Steps.refused k) = refl
       by (next z') = refl
   run-after n z b t (refused ts k m) = by (step N P z t)
     where
-      fits : (b : Bool) (c : Course) → then_stopped k m (cond b c (stopped 34 (n + 1))) ≡ cond b (then_stopped k m c) (stopped 34 (n + 1))
+      fits : (b : Bool) (c : Course) → then_stopped k m (cond b c (stopped StoreFull (n + 1))) ≡ cond b (then_stopped k m c) (stopped StoreFull (n + 1))
       fits true c = refl
       fits false c = refl
 
       by : (o : Outcome) → then_stopped k m (elim o [
         | Steps.refused j ↦ stopped j (n + 1)
-        | next z' ↦ cond (fitting size z') (run_steps N P size (n + 1) z' (stored_next size n b t z') ts) (stopped 34 (n + 1))
+        | next z' ↦ cond (fitting size z') (run_steps N P size (n + 1) z' (stored_next size n b t z') ts) (stopped StoreFull (n + 1))
       ]) ≡ step_then (λ z'. then_stopped k m (run_steps N P size (n + 1) z' (stored_next size n b t z') ts)) n o
       by (Steps.refused j) = refl
       by (next z') = fits (fitting size z') (run_steps N P size (n + 1) z' (stored_next size n b t z') ts)
@@ -89,7 +90,7 @@ module _ (N : ℕ) (P : List Rule) (size : ℕ) (text : List ℕ) where
             where
               fits : (f : Bool) → fitting size z' ≡ f
                   → Runs N P size text at n z b
-                  (cond f (run_read N P size (n + 1) z' (stored_after (n + 1) size x zs b z') (left at')) (stopped 34 (n + 1)))
+                  (cond f (run_read N P size (n + 1) z' (stored_after (n + 1) size x zs b z') (left at')) (stopped StoreFull (n + 1)))
               fits true q =
                   let u = passed-line text at e in
                   good e s (leb-true _ _ q) (later at' z' (stored_after (n + 1) size x zs b z') (u.0, u.1))

@@ -2,7 +2,7 @@
 -- Assumes nothing.
 use mathlib.Core.Path.{◌≡◌, ◌∙◌, ap, ap₂, subst}
 use mathlib.Core.Bool.{Bool, cond}
-use mathlib.Core.Option.{Option, none, some}
+use Rattle.std.specs.Prelude.{Option, None, Some}
 use mathlib.Core.List.{List, [], ◌∷◌, ◌++◌, map}
 use Prim.Native.Nat.{ℕ}
 use lib.IntN.{ℤ, pos, neg_ℤ}
@@ -26,6 +26,8 @@ use Rattle.nogoods.specs.Store.{Stored, added_in, live, killed, kept_for, kept_w
 use Rattle.nogoods.proofs.Live.{live-append, live-added, live-kept, live-killed}
 use Rattle.steps.specs.After.{with_added, stored_after}
 use Rattle.steps.proofs.Kept.{new-only}
+use Rattle.drupe.specs.declared.ProofFault.TheVariants.{Malformed, UnknownVariable, KnownName, NoUnnamedBody, NoCompletion, NoSupport, NoAtoms, UnnamedBody, NoConflict, NoLoop}
+use Rattle.drupe.specs.declared.ProofFault.{ProofFault}
 
 module _ (N : ℕ) (P : List Rule) (n size : ℕ) (z : State) (b : List Stored) (same : live b ≡ z.live) where
   -- what is stored after a step is what is live after it
@@ -44,16 +46,16 @@ module _ (N : ℕ) (P : List Rule) (n size : ℕ) (z : State) (b : List Stored) 
   less L = live-killed L b ∙ ap (drop_first (λ g. same_list g L)) same
 
   -- questions that are asked before the step o: one, that of a step that introduces no name, and those of one that does
-  asks : (x : Letter) (zs : List ℤ) (t : Bool) (o : Outcome) (k : ℕ) → Same x zs o → Same x zs (cond t o (Steps.refused k))
+  asks : (x : Letter) (zs : List ℤ) (t : Bool) (o : Outcome) (k : ProofFault) → Same x zs o → Same x zs (cond t o (Steps.refused k))
   asks x zs t o k h = by-test (Same x zs) t {x = o} {y = Steps.refused k} (λ q. h) (λ q. tt)
 
   cites : (x : Letter) (zs : List ℤ) (o : Outcome) → Same x zs o → Same x zs (citing N z zs o)
-  cites x zs o h = asks x zs (all_known N z zs) o 26 h
+  cites x zs o h = asks x zs (all_known N z zs) o UnknownVariable h
 
   introduces : (x : Letter) (m : ℤ) (L : List ℤ) (o : Outcome) → Same x (m ∷ L) o → Same x (m ∷ L) (naming N z m L o)
   introduces x m L o h =
-      asks x (m ∷ L) (all_known N z L) (cond (is_known N z (variable m)) (Steps.refused 27) o) 26
-      (by-test (Same x (m ∷ L)) (is_known N z (variable m)) {x = Steps.refused 27} {y = o} (λ q. tt) (λ q. h))
+      asks x (m ∷ L) (all_known N z L) (cond (is_known N z (variable m)) (Steps.refused KnownName) o) UnknownVariable
+      (by-test (Same x (m ∷ L)) (is_known N z (variable m)) {x = Steps.refused KnownName} {y = o} (λ q. tt) (λ q. h))
 
   -- the nogood of an `l` step
   abbrev unfounded : List ℤ → ℤ → List ℤ
@@ -63,23 +65,23 @@ module _ (N : ℕ) (P : List Rule) (n size : ℕ) (z : State) (b : List Stored) 
   loop-same h hs =
       let U = h ∷ hs in
       let last = next (add z (unfounded U h ∷ [])) in
-      let named = cond (all_named P z U) last (Steps.refused 32) in
-      asks Loop U (all_atoms N z U) (cond (is_loop P U) named (Steps.refused 56)) 31
-      (asks Loop U (is_loop P U) named 56 (asks Loop U (all_named P z U) last 32 (more (unfounded U h ∷ []))))
+      let named = cond (all_named P z U) last (Steps.refused UnnamedBody) in
+      asks Loop U (all_atoms N z U) (cond (is_loop P U) named (Steps.refused NoLoop)) NoAtoms
+      (asks Loop U (is_loop P U) named NoLoop (asks Loop U (all_named P z U) last UnnamedBody (more (unfounded U h ∷ []))))
 
   letter-same : (x : Letter) (zs : List ℤ) → Same x zs (by_letter N P z x zs)
   letter-same Addition L =
       let gs = ascending L ∷ [] in
-      cites Addition L (addition P z L) (asks Addition L (refuted z.live L) (next (add z gs)) 33 (more gs))
+      cites Addition L (addition P z L) (asks Addition L (refuted z.live L) (next (add z gs)) NoConflict (more gs))
   letter-same Body [] = tt
   letter-same Body (m ∷ L) =
       let to = next (define z m L (record { name = variable m; body = ascending L } ∷ z.named)) in
-      introduces Body m L (body P z m L) (asks Body (m ∷ L) (is_unnamed_body P z L) to 28 (more (definition m L)))
+      introduces Body m L (body P z m L) (asks Body (m ∷ L) (is_unnamed_body P z L) to NoUnnamedBody (more (definition m L)))
   letter-same Completion [] = tt
   letter-same Completion (m ∷ hs) =
       let gs = ascending (m ∷ map complement hs) ∷ [] in
       cites Completion (m ∷ hs) (completion P z m hs)
-      (asks Completion (m ∷ hs) (is_completion P z m hs) (next (add z gs)) 29 (more gs))
+      (asks Completion (m ∷ hs) (is_completion P z m hs) (next (add z gs)) NoCompletion (more gs))
   letter-same Deletion L = cites Deletion L (deletion P z L) (less (ascending L))
   letter-same Extension [] = tt
   letter-same Extension (m ∷ L) = introduces Extension m L (extension P z m L) (more (definition m L))
@@ -88,19 +90,19 @@ module _ (N : ℕ) (P : List Rule) (n size : ℕ) (z : State) (b : List Stored) 
   letter-same Support [] = tt
   letter-same Support (h ∷ ns) =
       let gs = ascending (h ∷ map complement ns) ∷ [] in
-      cites Support (h ∷ ns) (support N P z h ns) (asks Support (h ∷ ns) (is_support N P z h ns) (next (add z gs)) 30 (more gs))
+      cites Support (h ∷ ns) (support N P z h ns) (asks Support (h ∷ ns) (is_support N P z h ns) (next (add z gs)) NoSupport (more gs))
 
   step_same : (t : Step) → Same t.letter t.numbers (step N P z t)
   step_same t =
       let r = line_refusal t.letter t.numbers in
-      by-test (Same t.letter t.numbers) (has (pos 0) t.numbers) {x = Steps.refused 22} {y = after r} (λ q. tt) (λ q. by r)
+      by-test (Same t.letter t.numbers) (has (pos 0) t.numbers) {x = Steps.refused Malformed} {y = after r} (λ q. tt) (λ q. by r)
     where
-      after : Option ℕ → Outcome
-      after o = elim o as (λ x. Outcome) [ some k ↦ Steps.refused k | none ↦ by_letter N P z t.letter t.numbers ]
+      after : Option ProofFault → Outcome
+      after o = elim o as (λ x. Outcome) [ Some k ↦ Steps.refused k | None ↦ by_letter N P z t.letter t.numbers ]
 
-      by : (o : Option ℕ) → Same t.letter t.numbers (after o)
-      by (some k) = tt
-      by none = letter-same t.letter t.numbers
+      by : (o : Option ProofFault) → Same t.letter t.numbers (after o)
+      by (Some k) = tt
+      by None = letter-same t.letter t.numbers
 
   pub step-live : (t : Step) (z' : State) → step N P z t ≡ next z' → live (stored_after n size t.letter t.numbers b z') ≡ z'.live
   step-live t z' e = subst (Same t.letter t.numbers) e (step_same t)

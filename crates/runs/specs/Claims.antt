@@ -11,6 +11,8 @@ use Rattle.derivation.specs.Steps as Steps
 use Rattle.nogoods.specs.Store.{Stored, words_for}
 use Rattle.steps.specs.After.{stored_after}
 use Rattle.runs.specs.Course.{Course, stopped, through, course_within}
+use Rattle.drupe.specs.declared.ProofFault.TheVariants.{StoreFull}
+use Rattle.drupe.specs.declared.ProofFault.{ProofFault}
 
 -- What the proof's lines come to from a position on, after n steps that left the state z and what is stored, with no bound on the
 -- turns.
@@ -20,12 +22,12 @@ use Rattle.runs.specs.Course.{Course, stopped, through, course_within}
 module _ (N : ℕ) (P : List Rule) (size : ℕ) (text : List ℕ) where
   pub data Runs : (at done : ℕ) → State → List Stored → Course → Type 0 where
     ends : {at n : ℕ} {z : State} {b : List Stored} → line_at text at ≡ end → Runs at n z b (through n z b)
-    unread : {at n k : ℕ} {z : State} {b : List Stored} → line_at text at ≡ Lines.refused k → Runs at n z b (stopped k (n + 1))
-    unaccepted : {at n k after : ℕ} {z : State} {b : List Stored} {x : Letter} {zs : List ℤ} → line_at text at ≡ line x zs after
+    unread : {at n : ℕ} {k : ProofFault} {z : State} {b : List Stored} → line_at text at ≡ Lines.refused k → Runs at n z b (stopped k (n + 1))
+    unaccepted : {at n after : ℕ} {k : ProofFault} {z : State} {b : List Stored} {x : Letter} {zs : List ℤ} → line_at text at ≡ line x zs after
         → step N P z (record { letter = x; numbers = zs }) ≡ Steps.refused k → Runs at n z b (stopped k (n + 1))
     full : {at n after : ℕ} {z z' : State} {b : List Stored} {x : Letter} {zs : List ℤ} → line_at text at ≡ line x zs after
         → step N P z (record { letter = x; numbers = zs }) ≡ next z' → size < words_for z'.live
-        → Runs at n z b (stopped 34 (n + 1))
+        → Runs at n z b (stopped StoreFull (n + 1))
     good : {at n after : ℕ} {z z' : State} {b : List Stored} {x : Letter} {zs : List ℤ} {c : Course}
         → line_at text at ≡ line x zs after → step N P z (record { letter = x; numbers = zs }) ≡ next z' → words_for z'.live ≤ size
         → Runs after (n + 1) z' (stored_after (n + 1) size x zs b z') c → Runs at n z b c

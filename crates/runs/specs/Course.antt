@@ -10,15 +10,17 @@ use Rattle.derivation.specs.Steps.{next, step, empty_live}
 use Rattle.derivation.specs.Steps as Steps
 use Rattle.nogoods.specs.Store.{Stored, words_for}
 use Rattle.steps.specs.After.{stored_after}
+use Rattle.drupe.specs.declared.ProofFault.TheVariants.{StoreFull}
+use Rattle.drupe.specs.declared.ProofFault.{ProofFault}
 
--- what the proof comes to: a refusal with its number and step, or how many steps there were, the state that they left, and what is
+-- what the proof comes to: a refusal with its fault and step, or how many steps there were, the state that they left, and what is
 -- stored then
 pub data Course : Type 0 where
-  stopped : (number step : ℕ) → Course
+  stopped : (fault : ProofFault) (step : ℕ) → Course
   through : (done : ℕ) (left : State) (stored : List Stored) → Course
 
 -- "The first "no" decides": a line that is refused stops the check where no step before it did
-abbrev pub then_stopped : (number step : ℕ) → Course → Course
+abbrev pub then_stopped : (fault : ProofFault) (step : ℕ) → Course → Course
 then_stopped k n (stopped j m) = stopped j m
 then_stopped k n (through m z stored) = stopped k n
 
@@ -37,7 +39,7 @@ module _ (N : ℕ) (P : List Rule) (size : ℕ) where
         | next z' ↦
             cond (fitting size z')
             (run_steps (n + 1) z' (stored_after (n + 1) size t.letter t.numbers stored z') ts)
-            (stopped 34 (n + 1))
+            (stopped StoreFull (n + 1))
       ]
 
   -- a text's steps; or those before the line that is refused, and then that refusal

@@ -16,16 +16,14 @@ ghost use Rattle.heads.specs.Heads.{name_words, Indexed};
 ghost use Rattle.loops.specs.Relevance.{Relevant};
 ghost use Rattle.runs.specs.Course.{course_within};
 ghost use Rattle.steps.specs.Held.{Program, Tracks, Tracked, NoBodies, HoldsState};
-ghost use Rattle.runs.specs.Held.{proof_turn, LineLeaves, Ran, Ended};
-ghost use Rattle.runs.specs.declared.Run.TheVariants.{Through};
+ghost use Rattle.runs.specs.Held.{LineLeaves, Ran, Ended};
 
 use aspif::tables;
-use drupe::{LineAnswer, reader};
+use drupe::{ProofFault, reader};
 use heads::{INDEX_WORDS, NAME_WORDS};
 use loops::relevance;
 use names::by_name;
 use nogoods::{LENT_CELLS, chains};
-use steps::outcomes::Stepped;
 use steps::states::CheckingState;
 use weights::MOST_WEIGHTED;
 use words::{ENTRIES, MOST_HELD};
@@ -39,38 +37,27 @@ const SHORT_TEXT: usize = 2048;
 const SHORT_CELLS: usize = 55687;
 
 // The question that a proof fails, and the step, counted from 1; 0 where the whole text is at fault.
-#[derive(Drop)]
+#[derive(Clone, Copy)]
 pub struct ProofRefusal {
-    pub number: u8,
+    pub fault: ProofFault,
     pub step: usize,
 }
 
-// What stands at a position comes to: the end, the question that is answered no, or the next position and the words used then.
-#[derive(Drop)]
-pub enum ProofTurn {
-    Ends,
-    Fails(u8),
-    Goes { next: usize, used: usize },
+// A step that is accepted: the position after its line, and the words of the store that are used then.
+#[derive(Clone, Copy)]
+pub struct StepTaken {
+    pub next: usize,
+    pub used: usize,
 }
 
-// What the lines come to: a refusal, or the steps that there were and the words used after the last.
-#[derive(Drop)]
-pub enum Run {
-    Stopped(ProofRefusal),
-    Through { steps: usize, used: usize },
+// What the lines come to where none is refused: the steps that there were and the words used after the last.
+#[derive(Clone, Copy)]
+pub struct StepsTaken {
+    pub steps: usize,
+    pub used: usize,
 }
 
-// What a step comes to, with the position after its line.
-fn turn_of(next: usize, stepped: Stepped) -> ProofTurn
-    ensures { result ≡ proof_turn next stepped }
-{
-    match stepped {
-        Stepped::Uses(used) => ProofTurn::Goes { next, used },
-        Stepped::Fails(number) => ProofTurn::Fails(number),
-    }
-}
-
-// The line at the position, read into the two rows, and its step. The origin is the step's number, which is at most that of the bytes
+// The line at the position, read into the two rows, and its step; nothing at the end of the text. The origin is the step's number, which is at most that of the bytes
 // read. The lent assignment is one of all variables free, before and after.
 fn turn_at(
     proof: &[u8],
@@ -91,7 +78,7 @@ fn turn_at(
     index: &mut [u32],
     origin: usize,
     assignment: &mut [u8; ENTRIES],
-) -> ProofTurn
+) -> Result<Option<StepTaken>, ProofFault>
     requires state { Tracked table.now rules atoms known.old names.old bodies.old }
     requires index { Indexed lookup.now table.now rules }
     requires relevant { Relevant relevant.now (rules_at rules table.now) }
@@ -108,46 +95,32 @@ fn turn_at(
         used origin (length store.old) z stored (line_at proof.now at) result }
     ensures free { assignment.new ≡ replicate entries 0 }
 {
-    let answer = reader::step_at(proof, at, classes, numbers, sorted);
-    match answer {
-        LineAnswer::End => ProofTurn::Ends,
-        LineAnswer::Refused(number) => ProofTurn::Fails(number),
-        LineAnswer::Line {
-            letter,
-            count,
-            next,
-        } => {
-            let stepped = steps::step(
-                table,
-                rules,
-                lookup,
-                relevant,
-                atoms,
-                letter,
-                &mut numbers[..count],
-                &sorted[..count],
-                known,
-                names,
-                bodies,
-                store,
-                used,
-                index,
-                origin,
-                assignment,
-            );
-            turn_of(next, stepped)
-        }
-    }
-}
-
-// What the lines come to in the state after the last.
-fn through(state: CheckingState) -> Run
-    ensures { result ≡ Through state.steps state.used }
-{
-    Run::Through {
-        steps: state.steps,
-        used: state.used,
-    }
+    let read = reader::step_at(proof, at, classes, numbers, sorted)?;
+    let Some(line) = read else {
+        return Ok(None);
+    };
+    let used = steps::step(
+        table,
+        rules,
+        lookup,
+        relevant,
+        atoms,
+        line.letter,
+        &mut numbers[..line.count],
+        &sorted[..line.count],
+        known,
+        names,
+        bodies,
+        store,
+        used,
+        index,
+        origin,
+        assignment,
+    )?;
+    Ok(Some(StepTaken {
+        next: line.next,
+        used,
+    }))
 }
 
 // All lines of a proof text: "At the start there are no nogoods and no names, and the atoms alone are known." The first refusal ends them.
@@ -164,7 +137,7 @@ fn run_lines(
     bodies: &mut [i16],
     store: &mut [i32],
     index: &mut [u32],
-) -> Run
+) -> Result<StepsTaken, ProofRefusal>
     requires program { ((ws : List InputRule) × Program table.now rules atoms ws) × (rules ≤ most_held) }
     requires index { Indexed lookup.now table.now rules }
     requires relevant { Relevant relevant.now (rules_at rules table.now) }
@@ -182,9 +155,9 @@ fn run_lines(
     let mut sorted = [0; CheckingState::NUMBERS];
     let mut assignment = [0u8; CheckingState::LARGEST + 1];
     let mut state = CheckingState::start();
-    loop {
+    'lines: loop {
         let step = state.steps + 1;
-        match turn_at(
+        let turn = match turn_at(
             proof,
             state.at,
             &classes,
@@ -204,14 +177,18 @@ fn run_lines(
             step,
             &mut assignment,
         ) {
-            ProofTurn::Ends => return through(state),
-            ProofTurn::Fails(number) => return Run::Stopped(ProofRefusal { number, step }),
-            ProofTurn::Goes { next, used } => {
-                state.at = next;
-                state.used = used;
-                state.steps = step;
-            }
-        }
+            Err(fault) => return Err(ProofRefusal { fault, step }),
+            Ok(turn) => turn,
+        };
+        let Some(taken) = turn else {
+            return Ok(StepsTaken {
+                steps: state.steps,
+                used: state.used,
+            });
+        };
+        state.at = taken.next;
+        state.used = taken.used;
+        state.steps = step;
     }
 }
 
@@ -227,7 +204,7 @@ fn run_framed(
     names: &mut [u16],
     bodies: &mut [i16],
     store: &mut [i32],
-) -> Run
+) -> Result<StepsTaken, ProofRefusal>
     requires program { ((ws : List InputRule) × Program table.now rules atoms ws) × (rules ≤ most_held) }
     requires index { Indexed lookup.now table.now rules }
     requires relevant { Relevant relevant.now (rules_at rules table.now) }
@@ -268,7 +245,7 @@ fn run_short(
     names: &mut [u16],
     bodies: &mut [i16],
     store: &mut [i32],
-) -> Run
+) -> Result<StepsTaken, ProofRefusal>
     requires program { ((ws : List InputRule) × Program table.now rules atoms ws) × (rules ≤ most_held) }
     requires index { Indexed lookup.now table.now rules }
     requires relevant { Relevant relevant.now (rules_at rules table.now) }
@@ -299,7 +276,7 @@ fn run_indexed(
     bodies: &mut [i16],
     store: &mut [i32],
     index: &mut [u32],
-) -> Run
+) -> Result<StepsTaken, ProofRefusal>
     requires program { ((ws : List InputRule) × Program table.now rules atoms ws) × (rules ≤ most_held) }
     requires index { Indexed lookup.now table.now rules }
     requires relevant { Relevant relevant.now (rules_at rules table.now) }
@@ -338,7 +315,7 @@ fn run_weighted(
     bodies: &mut [i16],
     store: &mut [i32],
     index: &mut [u32],
-) -> Run
+) -> Result<StepsTaken, ProofRefusal>
     requires program { ((ws : List InputRule) × Program table.now rules atoms ws) × (rules ≤ most_held) }
     requires start { Marks known.old (up_to atoms) × (names.old ≡ replicate name_words 0) }
     requires bodies { NoBodies (rules_at rules table.now) bodies.old }
@@ -378,7 +355,7 @@ fn run_plain(
     bodies: &mut [i16],
     store: &mut [i32],
     index: &mut [u32],
-) -> Run
+) -> Result<StepsTaken, ProofRefusal>
     requires program { ((ws : List InputRule) × Program table.now rules atoms ws) × (rules ≤ most_held) }
     requires start { Marks known.old (up_to atoms) × (names.old ≡ replicate name_words 0) }
     requires plain { all_plain (rules_at rules table.now) ≡ true }
@@ -418,7 +395,7 @@ fn run_lent(
     bodies: &mut [i16],
     store: &mut [i32],
     index: &mut [u32],
-) -> Run
+) -> Result<StepsTaken, ProofRefusal>
     requires program { ((ws : List InputRule) × Program table.now rules atoms ws) × (rules ≤ most_held) }
     requires start { Marks known.old (up_to atoms) × (names.old ≡ replicate name_words 0) }
     requires bodies { NoBodies (rules_at rules table.now) bodies.old }
@@ -449,7 +426,7 @@ pub fn run_half(
     names: &mut [u16],
     bodies: &mut [i16],
     store: &mut [i32],
-) -> Run
+) -> Result<StepsTaken, ProofRefusal>
     requires program { ((ws : List InputRule) × Program table.now rules atoms ws) × (rules ≤ most_held) }
     requires start { Marks known.old (up_to atoms) × (names.old ≡ replicate name_words 0) }
     requires bodies { NoBodies (rules_at rules table.now) bodies.old }
@@ -475,7 +452,7 @@ fn run_recorded(
     names: &mut [u16],
     store: &mut [i32],
     index: &mut [u32],
-) -> Run
+) -> Result<StepsTaken, ProofRefusal>
     requires program { ((ws : List InputRule) × Program table.now rules atoms ws) × (rules ≤ most_held) }
     requires start { Marks known.old (up_to atoms) × (names.old ≡ replicate name_words 0) }
     requires short { length proof.now ≤ widest }
@@ -506,7 +483,7 @@ pub fn run_long(
     atoms: usize,
     store: &mut [i32],
     index: &mut [u32],
-) -> Run
+) -> Result<StepsTaken, ProofRefusal>
     requires program { ((ws : List InputRule) × Program table.now rules atoms ws) × (rules ≤ most_held) }
     requires short { length proof.now ≤ widest }
     requires empty { store.old ≡ replicate (length store.old) (pos 0) }
@@ -528,7 +505,13 @@ pub fn run_long(
 }
 
 // The same with nothing lent for the index.
-pub fn run_proof(proof: &[u8], table: &[i32], rules: usize, atoms: usize, store: &mut [i32]) -> Run
+pub fn run_proof(
+    proof: &[u8],
+    table: &[i32],
+    rules: usize,
+    atoms: usize,
+    store: &mut [i32],
+) -> Result<StepsTaken, ProofRefusal>
     requires program { ((ws : List InputRule) × Program table.now rules atoms ws) × (rules ≤ most_held) }
     requires short { length proof.now ≤ widest }
     requires empty { store.old ≡ replicate (length store.old) (pos 0) }

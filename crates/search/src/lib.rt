@@ -1,26 +1,27 @@
-// A search for a conflict with two watched literals, of which nothing is promised but bounds and an end: what it leaves is a path, the places of the
-// nogoods that it went by, and `replay` decides. What it keeps from step to step, and how, is said in crate `watches`.
+// A search for a conflict with two watched literals, of which nothing is promised but bounds and an end: what it leaves
+// is a path, the places of the nogoods that it went by, and `replay` decides. What it keeps from step to step, and how,
+// is said in crate `watches`.
 #![tactic(auto)]
 
 mod paths;
 mod root;
 mod trail;
 
-ghost use Rattle.std.specs.Prelude.{◌≤◌};
+ghost use Rattle.std.specs.Prelude.{◌≤◌, IfSome};
 ghost use Rattle.words.specs.Limits.{entries};
 ghost use Rattle.watches.specs.Small.{largest_cell};
 
 use crate::paths::{contradict, gather_all, lead};
 use crate::root::{
-    LED, clear_hint, cut_root, front, is_led, note_dead, ready, root, settle, unhint, withdraw,
+    clear_hint, cut_root, front, is_led, note_dead, note_led, ready, root, settle, unhint, withdraw,
 };
 use crate::trail::{assume, propagate, undo};
 use watches::cells;
-use watches::cells::{DEAD, HINT, KEPT, get, put};
+use watches::cells::{DEAD, KEPT, get, put, put_some};
 use watches::lists::{clear, own_of, watch, watch_again};
 use watches::literals::{code_at, count, end_of, opposite};
 use watches::rows::fit;
-use watches::turns::open_from;
+use watches::turns::find_open;
 
 // Where the path stands, and where it begins; as many places it has at most.
 pub const PATH: usize = cells::PATH;
@@ -29,40 +30,45 @@ pub const FIRST: usize = cells::FIRST;
 
 pub const MOST: usize = cells::MOST;
 
-// Places from here on are not watched. Whoever lends the cells sees to it that there are two for each word of the store that is entered.
+// Places from here on are not watched. Whoever lends the cells sees to it that there are two for each word of the store
+// that is entered.
 const FAR: usize = 1073741824;
 
-// No literal has this code.
-const NO_CODE: usize = 65535;
-
-// The literals are true, and what follows. The path to a nogood that is violated, or to a literal that is true and false; else all that was found.
+// The literals are true, and what follows. The path to a nogood that is violated, or to a literal that is true and
+// false; else all that was found.
 fn pursue(store: &[i32], literals: &[i32], cells: &mut [u32], mark: usize) -> usize
     requires { mark ≤ entries }
 {
-    let against = assume(literals, cells);
-    if 0 < against {
+    if let Some(against) = assume(literals, cells) {
         return contradict(store, cells, mark, against);
     }
-    let last = propagate(store, cells, mark);
-    if 0 < last {
-        return lead(store, cells, mark, last);
+    if let Some(x) = propagate(store, cells, mark) {
+        return lead(store, cells, mark, x);
     }
     gather_all(cells, MOST, mark)
 }
 
 // A path: to a nogood that is violated without any assumption, if there is one.
-fn find(store: &[i32], literals: &[i32], cells: &mut [u32], mark: usize, last: usize) -> usize
-    requires { (mark ≤ entries) × (last ≤ largest_cell) }
+fn find(
+    store: &[i32],
+    literals: &[i32],
+    cells: &mut [u32],
+    mark: usize,
+    last: Option<usize>,
+) -> usize
+    requires { (mark ≤ entries) × IfSome last (λ x. x ≤ largest_cell) }
 {
-    if 0 < last {
-        put(cells, HINT, last + LED);
-        lead(store, cells, mark, last)
-    } else {
-        pursue(store, literals, cells, mark)
+    match last {
+        Some(x) => {
+            note_led(cells, x);
+            lead(store, cells, mark, x)
+        }
+        None => pursue(store, literals, cells, mark),
     }
 }
 
-// One search for a conflict that the literals lead to. It leaves a path; one that leads to a conflict without any assumption stays.
+// One search for a conflict that the literals lead to. It leaves a path; one that leads to a conflict without any
+// assumption stays.
 pub fn run(store: &[i32], literals: &[i32], cells: &mut [u32]) {
     ready(cells);
     fit(store, cells);
@@ -83,19 +89,14 @@ fn enter_new(store: &[i32], x: usize, cells: &mut [u32])
     ready(cells);
     let from = x + 2;
     let end = end_of(store, x);
-    let a = open_from(store, cells, from, end, NO_CODE);
-    let b = open_from(store, cells, a + 1, end, NO_CODE);
-    let one = if a < end { a } else { from };
-    let two = if b < end {
-        b
-    } else {
-        if one == from { from + 1 } else { from }
-    };
+    let a = find_open(store, cells, from..end, None);
+    let one = a.unwrap_or(from);
+    let b = find_open(store, cells, one + 1..end, None);
+    let two = b.unwrap_or(if one == from { from + 1 } else { from });
     let c = code_at(store, one, end);
-    let d = code_at(store, two, end);
-    watch(cells, x, c, d);
-    if end <= b {
-        settle(cells, x, a < end, c);
+    watch(cells, x, c, code_at(store, two, end));
+    if b.is_none() {
+        settle(cells, x, a.and(Some(c)));
     }
 }
 
@@ -112,7 +113,8 @@ pub fn enter(store: &[i32], x: usize, cells: &mut [u32]) {
     }
 }
 
-// Nothing of the root rests on the nogood at x, which is dead now. What it gave is the complement of a literal that it watches.
+// Nothing of the root rests on the nogood at x, which is dead now. What it gave is the complement of a literal that it
+// watches.
 pub fn forget(x: usize, cells: &mut [u32]) {
     if FAR <= x {
         return;
@@ -122,20 +124,20 @@ pub fn forget(x: usize, cells: &mut [u32]) {
     if count(cells) <= 1 {
         return;
     }
-    let first = own_of(cells, x, 0);
-    if withdraw(cells, x, opposite(first)) {
-        return;
+    for w in 0..2 {
+        let own = own_of(cells, x, w);
+        if withdraw(cells, x, opposite(own)) {
+            return;
+        }
     }
-    let second = own_of(cells, x, 1);
-    withdraw(cells, x, opposite(second));
 }
 
-// The store is closed up, and all nogoods are to be entered again: no literal is watched. What rests on nogoods before the first dead one stays, since
-// they do not move.
+// The store is closed up, and all nogoods are to be entered again: no literal is watched. What rests on nogoods before
+// the first dead one stays, since they do not move.
 pub fn reset(cells: &mut [u32]) {
     let kept = front(cells);
     put(cells, KEPT, kept);
-    put(cells, DEAD, 0);
+    put_some(cells, DEAD, None);
     cut_root(cells, kept);
     clear_hint(cells);
     clear(cells);

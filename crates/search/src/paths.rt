@@ -3,8 +3,8 @@ ghost use Rattle.std.specs.Prelude.{◌≤◌};
 ghost use Rattle.words.specs.Limits.{entries};
 ghost use Rattle.watches.specs.Small.{largest_cell};
 
-use watches::cells::{BLOCKS, MOST, ORDER, PATH, REASON, get, put};
-use watches::literals::{code_of, count, end_of};
+use watches::cells::{BLOCKS, MOST, PATH, REASON, get, get_some, put};
+use watches::literals::{code_of, count, end_of, order_of};
 
 // What is added to the place that gave a literal where the path needs that.
 const NEEDED: usize = 2147483648;
@@ -19,15 +19,14 @@ const FEW: usize = 64;
 fn need(cells: &mut [u32], c: usize)
     requires { c ≤ largest_cell }
 {
-    let at = get(cells, ORDER + c);
-    if at == 0 {
+    let Some(i) = order_of(cells, c) else {
         return;
-    }
-    let reason = get(cells, REASON + at - 1);
+    };
+    let reason = get(cells, REASON + i);
     if reason < NEEDED {
-        let block = BLOCKS + (at - 1) / BLOCK;
+        let block = BLOCKS + i / BLOCK;
         put(cells, block, get(cells, block) + 1);
-        put(cells, REASON + at - 1, reason + NEEDED);
+        put(cells, REASON + i, reason + NEEDED);
     }
 }
 
@@ -35,11 +34,8 @@ fn need(cells: &mut [u32], c: usize)
 fn need_all(store: &[i32], cells: &mut [u32], x: usize)
     requires { x ≤ largest_cell }
 {
-    let end = end_of(store, x);
-    let mut j = x + 2;
-    while j < end {
+    for j in x + 2..end_of(store, x) {
         need(cells, code_of(words::word_at(store, j)));
-        j += 1;
     }
 }
 
@@ -55,22 +51,17 @@ fn prepend(cells: &mut [u32], first: usize, x: usize, bound: usize) -> usize
     first - 1
 }
 
-// What gave the root stays, and so does what gave a literal in the order before i: no path is to be written over that.
-fn bound_at(i: usize, mark: usize) -> usize {
-    if i < mark { mark } else { i }
-}
-
 // One less is needed of a block.
 fn met(cells: &mut [u32], block: usize)
     requires { block ≤ largest_cell }
 {
     let left = get(cells, BLOCKS + block);
-    if 0 < left {
-        put(cells, BLOCKS + block, left - 1);
-    }
+    put(cells, BLOCKS + block, left.saturating_sub(1));
 }
 
-// One of the literals in their order: if the path needs it, the nogood that gave it goes to the front, and its literals are needed.
+// One of the literals in their order: if the path needs it, the nogood that gave it goes to the front, and its literals
+// are needed. What gave the root stays, and so does what gave a literal in the order before i: no path is to be written
+// over that.
 fn follow(store: &[i32], cells: &mut [u32], i: usize, first: usize, mark: usize) -> usize
     requires { (i ≤ entries) × (first ≤ entries) }
     ensures { result ≤ entries }
@@ -79,14 +70,35 @@ fn follow(store: &[i32], cells: &mut [u32], i: usize, first: usize, mark: usize)
     if reason < NEEDED {
         return first;
     }
-    let x = reason - NEEDED;
-    put(cells, REASON + i, x);
+    put(cells, REASON + i, reason - NEEDED);
     met(cells, i / BLOCK);
-    if x == 0 {
+    let Some(x) = (reason - NEEDED).checked_sub(1) else {
         return first;
+    };
+    need_all(store, cells, x);
+    prepend(cells, first, x, i.max(mark))
+}
+
+// The nogoods that gave what is needed of a block, whose literals end before a place, latest first.
+fn gather_block(
+    store: &[i32],
+    cells: &mut [u32],
+    block: usize,
+    end: usize,
+    start: usize,
+    mark: usize,
+) -> usize
+    requires { (block ≤ entries) × (end ≤ entries) × (start ≤ entries) }
+    ensures { result ≤ entries }
+{
+    let mut first = start;
+    for i in (BLOCK * block..end).rev() {
+        if get(cells, BLOCKS + block) == 0 {
+            return first;
+        }
+        first = follow(store, cells, i, first, mark);
     }
-    need_all(store, cells, x - 1);
-    prepend(cells, first, x - 1, bound_at(i, mark))
+    first
 }
 
 // The nogoods that gave what is needed, latest first, go to the front of the path.
@@ -94,15 +106,17 @@ fn gather(store: &[i32], cells: &mut [u32], start: usize, mark: usize) -> usize
     requires { start ≤ entries }
     ensures { result ≤ entries }
 {
+    let n = count(cells);
     let mut first = start;
-    let mut i = count(cells);
-    while 0 < i {
-        i -= 1;
-        if get(cells, BLOCKS + i / BLOCK) == 0 {
-            i -= i % BLOCK;
-        } else {
-            first = follow(store, cells, i, first, mark);
-        }
+    for block in (0..n.div_ceil(BLOCK)).rev() {
+        first = gather_block(
+            store,
+            cells,
+            block,
+            n.min(BLOCK * block + BLOCK),
+            first,
+            mark,
+        );
     }
     first
 }
@@ -112,40 +126,32 @@ pub fn gather_all(cells: &mut [u32], start: usize, mark: usize) -> usize
     requires { start ≤ entries }
 {
     let mut first = start;
-    let mut i = count(cells);
-    while 0 < i {
-        i -= 1;
-        let x = get(cells, REASON + i);
-        if 0 < x {
-            first = prepend(cells, first, x - 1, bound_at(i, mark));
+    for i in (0..count(cells)).rev() {
+        if let Some(x) = get_some(cells, REASON + i) {
+            first = prepend(cells, first, x, i.max(mark));
         }
     }
     first
 }
 
-// So few literals of all are true without any assumption that it costs less to replay all than to tell which are needed; and all have room.
+// So few literals of all are true without any assumption that it costs less to replay all than to tell which are
+// needed; and all have room.
 fn is_small(cells: &[u32], mark: usize) -> bool
     requires { mark ≤ entries }
 {
     let n = count(cells);
-    if MOST <= n + mark {
-        return false;
-    }
-    if mark <= FEW {
-        return true;
-    }
-    4 * mark <= n
+    n + mark < MOST && (mark <= FEW || 4 * mark <= n)
 }
 
-// The path to a nogood that is violated. Where it begins.
-pub fn lead(store: &[i32], cells: &mut [u32], mark: usize, last: usize) -> usize
-    requires { (mark ≤ entries) × (1 ≤ last) × (last ≤ largest_cell) }
+// The path to the nogood at x, which is violated. Where it begins.
+pub fn lead(store: &[i32], cells: &mut [u32], mark: usize, x: usize) -> usize
+    requires { (mark ≤ entries) × (x ≤ largest_cell) }
 {
-    let first = prepend(cells, MOST, last - 1, count(cells));
+    let first = prepend(cells, MOST, x, count(cells));
     if is_small(cells, mark) {
         return gather_all(cells, first, mark);
     }
-    need_all(store, cells, last - 1);
+    need_all(store, cells, x);
     gather(store, cells, first, mark)
 }
 

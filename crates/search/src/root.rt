@@ -1,11 +1,11 @@
 // The root: what is true without any assumption. It is kept from step to step, as long as what gave it is.
-ghost use Rattle.std.specs.Prelude.{◌≤◌};
+ghost use Rattle.std.specs.Prelude.{◌≤◌, IfSome};
 ghost use Rattle.watches.specs.Small.{largest_cell};
 
 use crate::trail::{propagate, undo};
-use watches::cells::{COUNT, DEAD, DONE, FIRST, HINT, ORDER, REASON, TRAIL, get, put};
+use watches::cells::{COUNT, DEAD, DONE, FIRST, HINT, REASON, TRAIL, get, get_some, put, put_some};
 use watches::lists::release;
-use watches::literals::{count, is_true, opposite, push};
+use watches::literals::{count, is_true, opposite, order_of, push};
 use watches::pieces::lay;
 
 // What is added to the nogood that the root violates where the path leads to it.
@@ -15,80 +15,80 @@ pub const LED: usize = 2147483648;
 pub fn ready(cells: &mut [u32]) {
     lay(cells);
     if count(cells) == 0 {
-        let n = push(cells, 0, 0, 0);
+        let n = push(cells, 0, 0, None);
         put(cells, COUNT, n);
     }
 }
 
-// The nogood that the root violates, one more than its place, or 0.
-fn hint_of(cells: &[u32]) -> usize
-    ensures { result ≤ largest_cell }
+// The place of a nogood that the root violates, if one is known.
+fn hint_of(cells: &[u32]) -> Option<usize>
+    ensures { IfSome result (λ x. x ≤ largest_cell) }
 {
-    let hint = get(cells, HINT);
-    if hint < LED { hint } else { hint - LED }
+    (get(cells, HINT) % LED).checked_sub(1)
+}
+
+// The path leads to the nogood at x, which the root violates.
+pub fn note_led(cells: &mut [u32], x: usize)
+    requires { x ≤ largest_cell }
+{
+    put(cells, HINT, LED + x + 1);
 }
 
 // The path leads to the nogood that the root violates, and no literal was written over it.
 pub fn is_led(cells: &[u32]) -> bool {
-    if get(cells, HINT) < LED {
-        return false;
-    }
-    count(cells) <= get(cells, FIRST)
+    LED <= get(cells, HINT) && count(cells) <= get(cells, FIRST)
 }
 
-// A nogood that is violated without any assumption.
-pub fn root(store: &[i32], cells: &mut [u32]) -> usize
-    ensures { result ≤ largest_cell }
+// The place of a nogood that is violated without any assumption, if there is one.
+pub fn root(store: &[i32], cells: &mut [u32]) -> Option<usize>
+    ensures { IfSome result (λ x. x ≤ largest_cell) }
 {
     let hint = hint_of(cells);
-    if 0 < hint {
+    if hint.is_some() {
         return hint;
     }
     let last = propagate(store, cells, 0);
-    put(cells, HINT, last);
+    put_some(cells, HINT, last);
     last
 }
 
-// A nogood that watches one literal that is not true, or none: what follows without any assumption.
-pub fn settle(cells: &mut [u32], x: usize, open: bool, c: usize)
-    requires { (c ≤ largest_cell) × (x ≤ largest_cell) }
+// A nogood with one literal that is not true, or none: what follows without any assumption.
+pub fn settle(cells: &mut [u32], x: usize, untrue: Option<usize>)
+    requires { (x ≤ largest_cell) × IfSome untrue (λ c. c ≤ largest_cell) }
 {
-    if open {
-        if !is_true(cells, opposite(c)) {
-            let n = push(cells, count(cells), opposite(c), x + 1);
-            put(cells, COUNT, n);
-        }
-    } else {
+    let Some(c) = untrue else {
         if get(cells, HINT) == 0 {
-            put(cells, HINT, x + 1);
+            put_some(cells, HINT, Some(x));
         }
+        return;
+    };
+    if !is_true(cells, opposite(c)) {
+        let n = push(cells, count(cells), opposite(c), Some(x));
+        put(cells, COUNT, n);
     }
 }
 
 // Of the root only the first literals stay.
 fn retract(cells: &mut [u32], to: usize) {
-    let n = count(cells);
-    let mut i = to;
-    while i < n {
+    for i in to..count(cells) {
         let c = get(cells, TRAIL + i);
         release(cells, opposite(c));
-        i += 1;
     }
     undo(cells, to);
 }
 
-// A literal of a nogood at x that is dead now: if its complement was true by it, that and what came later is not any more. Whether that is so.
+// A literal of a nogood at x that is dead now: if its complement was true by it, that and what came later is not any
+// more. Whether that is so.
 pub fn withdraw(cells: &mut [u32], x: usize, c: usize) -> bool
     requires { (c ≤ largest_cell) × (x ≤ largest_cell) }
 {
-    let at = get(cells, ORDER + c);
-    if at == 0 {
+    let Some(i) = order_of(cells, c) else {
+        return false;
+    };
+    if get_some(cells, REASON + i) != Some(x) {
         return false;
     }
-    if get(cells, REASON + at - 1) != x + 1 {
-        return false;
-    }
-    retract(cells, at - 1);
+    retract(cells, i);
     put(cells, DONE, 0);
     put(cells, HINT, 0);
     true
@@ -98,42 +98,32 @@ pub fn withdraw(cells: &mut [u32], x: usize, c: usize) -> bool
 pub fn unhint(cells: &mut [u32], x: usize)
     requires { x ≤ largest_cell }
 {
-    if hint_of(cells) == x + 1 {
-        put(cells, HINT, 0);
-        put(cells, DONE, 0);
+    if hint_of(cells) == Some(x) {
+        clear_hint(cells);
     }
 }
 
-// The nogood at x is dead now: one more than the first such place is kept.
+// The nogood at x is dead now: the first such place is kept.
 pub fn note_dead(cells: &mut [u32], x: usize)
     requires { x ≤ largest_cell }
 {
-    let dead = get(cells, DEAD);
-    if 0 < dead {
-        if dead <= x + 1 {
-            return;
-        }
+    if get_some(cells, DEAD).is_none_or(|first| x < first) {
+        put_some(cells, DEAD, Some(x));
     }
-    put(cells, DEAD, x + 1);
 }
 
 // The place before which no nogood died; 0 where none did at all.
 pub fn front(cells: &[u32]) -> usize {
-    let dead = get(cells, DEAD);
-    if dead == 0 { 0 } else { dead - 1 }
+    get_some(cells, DEAD).unwrap_or(0)
 }
 
 // Of the root the first literals stay, up to the first that was given by a nogood at a place or after it.
 pub fn cut_root(cells: &mut [u32], place: usize) {
     let n = count(cells);
-    let mut i = 0;
-    while i < n {
-        if place < get(cells, REASON + i) {
-            undo(cells, i);
-            put(cells, DONE, 0);
-            return;
-        }
-        i += 1;
+    let cut = (0..n).find(|i| get_some(cells, REASON + *i).is_some_and(|x| place <= x));
+    if let Some(i) = cut {
+        undo(cells, i);
+        put(cells, DONE, 0);
     }
 }
 

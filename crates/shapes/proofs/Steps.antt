@@ -9,13 +9,12 @@ use borrow.Author.Tests.{ltb-true, ltb-false, eqb-true, eqb-false, eq-eqb, ne_eq
 use lib.Dec.{eqb, ltb, leb}
 use lib.ListN.{length, take, drop, set, get_or, drop_of_length-le, length-drop}
 use lib.Seq.{drop-cons, take-suc-set, drop-drop}
-use Rattle.words.specs.Limits.{largest_size}
 use Rattle.words.specs.Lists.{any}
 use Rattle.derivation.specs.States.{is_atom}
 use Rattle.shapes.specs.Tree.{end, split, Parsed, bad, found, and_then, tree_of, sum}
-use Rattle.shapes.specs.Walks.{Walks, AreJoined, joined_to, is_tree}
+use Rattle.shapes.specs.Walks.{Walks, is_tree}
 use Rattle.shapes.specs.declared.Walked.{Walked}
-use Rattle.shapes.specs.declared.Walked.TheVariants.{Tree, NoTree}
+use Rattle.std.specs.Prelude.{Option, Some, None}
 
 -- Sums
 
@@ -103,46 +102,43 @@ module _ (N : ℕ) (path : List ℕ) where
     pub first-none : Below (drop 1 l) ≡ bad → tree_of depth path N l ≡ bad
     first-none e = opened ∙ rw e
 
-    pub joins : (a b : ℕ) → Walks (Below (drop 1 l)) (drop 1 l) (Tree a b) → (w : Walked) → Walks (Below (drop a (drop 1 l))) (drop a (drop 1 l)) w
-        → Walks (tree_of depth path N l) l (joined_to a b w)
-    joins a b (t, e, k, i, j) NoTree f = let g : Below (drop a (drop 1 l)) ≡ bad = f in opened ∙ rw (e, g)
-    joins a b (t, e, k, i, j) (Tree m o) (u, f, p, q, r) = (
-      split (get_or l 0 0) t u,
-      opened ∙ rw (e, f) (ap (found (split (get_or l 0 0) t u)) (drop-drop m a (drop 1 l) ∙ (drop-drop (a + m) 1 l ∙ ap (λ (x : ℕ). drop x l) further))),
-      ap₂ (λ (x y : ℕ). x + y) k p,
-      omega (arith, i, q),
-      omega (arith, h, j, r, length-drop 1 l, length-drop a (drop 1 l)),
-    )
-      where
-        further : 1 + (a + m) ≡ 1 + a + m
-        further = omega arith
+    module _ {w : Walked} (f : Walks (Below (drop 1 l)) (drop 1 l) (Some w)) where
+      pub second-none : Below (drop w.numbers (drop 1 l)) ≡ bad → tree_of depth path N l ≡ bad
+      second-none g = opened ∙ rw (f.1, g)
 
--- Two sides, as the code joins them
-
-pub joined-fits : (n k : ℕ) {w : Walked} (m j : ℕ) → w ≡ Tree m j → AreJoined n k w → (1 + n + m ≤ largest_size) × (k ≤ n) × (j ≤ m)
-joined-fits n k m j e a = rw e at a
+      pub joins : {u : Walked} → Walks (Below (drop w.numbers (drop 1 l))) (drop w.numbers (drop 1 l)) (Some u)
+          → Walks (tree_of depth path N l) l (Some (record { numbers = 1 + w.numbers + u.numbers; ends = w.ends + u.ends }))
+      joins {u} g = (
+        split (get_or l 0 0) f.0 g.0,
+        opened ∙ rw (f.1, g.1) (ap (found (split (get_or l 0 0) f.0 g.0)) (drop-drop u.numbers w.numbers (drop 1 l) ∙ (drop-drop (w.numbers + u.numbers) 1 l ∙ ap (λ (x : ℕ). drop x l) further))),
+        ap₂ (λ (x y : ℕ). x + y) f.2 g.2,
+        omega (arith, f.3, g.3),
+        omega (arith, h, f.4, g.4, length-drop 1 l, length-drop w.numbers (drop 1 l)),
+      )
+        where
+          further : 1 + (w.numbers + u.numbers) ≡ 1 + w.numbers + u.numbers
+          further = omega arith
 
 -- What a walk told
 
-pub walks-none : (p : Parsed) (l : List ℕ) {w : Walked} → w ≡ NoTree → Walks p l w → p ≡ bad
+pub walks-none : (p : Parsed) (l : List ℕ) {w : Option Walked} → w ≡ None → Walks p l w → p ≡ bad
 walks-none p l e W = subst (Walks p l) e W
 
-pub walks-tree : (p : Parsed) (l : List ℕ) {w : Walked} (n k : ℕ) → w ≡ Tree n k → Walks p l w → Walks p l (Tree n k)
-walks-tree p l n k e W = subst (Walks p l) e W
-
--- what is asked of two sides, one after the other
-pub joinable : (p q : Parsed) (l : List ℕ) (n k : ℕ) → ¬ (length l ≡ 0) → length l ≤ largest_size → Walks p (drop 1 l) (Tree n k)
-    → (w : Walked) → Walks q (drop n (drop 1 l)) w → AreJoined n k w
-joinable p q l n k h m W NoTree f = tt
-joinable p q l n k h m (t, e, x, i, j) (Tree a b) (u, f, y, z, r) =
-    (omega (arith, h, m, j, r, length-drop 1 l, length-drop n (drop 1 l)), i, z)
+pub walks-tree : (p : Parsed) (l : List ℕ) {o : Option Walked} (w : Walked) → o ≡ Some w → Walks p l o → Walks p l (Some w)
+walks-tree p l w e W = subst (Walks p l) e W
 
 -- 64
 
-pub told-tree : (p : Parsed) (l : List ℕ) (n k : ℕ) → Walks p l (Tree n k) → (size : ℕ) (lengths : List ℕ) (b : Bool) → b ≡ eqb (sum lengths) size
-    → ((eqb n (length l) && eqb k (length lengths)) && b) ≡ is_tree p size lengths
-told-tree p l n k (t, e, q, i, j) size lengths b a = rw e (by (drop n l) (length-drop n l))
+pub told-tree : (p : Parsed) (l : List ℕ) (w : Walked) → Walks p l (Some w) → (size : ℕ) (lengths : List ℕ) (b : Bool) → b ≡ eqb (sum lengths) size
+    → ((eqb w.numbers (length l) && eqb w.ends (length lengths)) && b) ≡ is_tree p size lengths
+told-tree p l w (t, e, q, i, j) size lengths b a = rw e (by (drop n l) (length-drop n l))
   where
+    n : ℕ
+    n = w.numbers
+
+    k : ℕ
+    k = w.ends
+
     by : (rest : List ℕ) → length rest ≡ length l - n → ((eqb n (length l) && eqb k (length lengths)) && b) ≡ is_tree (found t rest) size lengths
     by [] z = let m : n ≡ length l = omega (arith, z, j) in rw (eq-eqb n (length l) m, q, a) refl
     by (x ∷ xs) z = rw (ne_eqb n (length l) (λ (m : n ≡ length l). omega (arith, z, m))) refl

@@ -5,82 +5,56 @@
 ghost use Rattle.std.specs.Prelude.{◌≡◌, [], ◌-◌, ◌≤◌, eqb, length, take};
 ghost use Rattle.words.specs.Lists.{any};
 ghost use Rattle.shapes.specs.Tree.{tree_of, sum, most_splits};
-ghost use Rattle.shapes.specs.Walks.{Walks, AreJoined, joined_to, is_tree};
+ghost use Rattle.shapes.specs.Walks.{Walks, is_tree};
 
 // The most splits on a path.
 pub const MOST_SPLITS: usize = 6;
 
-// How many numbers a tree takes and how many ends it has; or there is none.
+// How many numbers a tree takes and how many ends it has.
 #[derive(Drop)]
-pub enum Walked {
-    Tree { numbers: usize, ends: usize },
-    NoTree,
+struct Walked {
+    numbers: usize,
+    ends: usize,
 }
 
 // The atom is on the path.
 fn is_on(path: &[u16], atom: u16) -> bool
     ensures { result ≡ any (eqb atom) path.now }
 {
-    let mut i = 0;
-    while i < path.len() {
-        if path[i] == atom {
-            return true;
-        }
-        i += 1;
-    }
-    false
+    path.contains(&atom)
 }
 
-// A split's number, and its two sides one after the other.
-fn joined(numbers: usize, ends: usize, other: Walked) -> Walked
-    requires { AreJoined numbers ends other }
-    ensures { result ≡ joined_to numbers ends other }
-{
-    match other {
-        Walked::NoTree => Walked::NoTree,
-        Walked::Tree {
-            numbers: more,
-            ends: others,
-        } => Walked::Tree {
-            numbers: 1 + numbers + more,
-            ends: ends + others,
-        },
-    }
-}
-
-// The tree at the front of the numbers, with so many splits left below it. The path has an atom for each split above.
-fn shape(depth: usize, path: [u16; MOST_SPLITS], atoms: usize, tree: &[u16]) -> Walked
+// The tree at the front of the numbers, where there is one, with so many splits left below it. The path has an atom for each split above.
+fn shape(depth: usize, path: [u16; MOST_SPLITS], atoms: usize, tree: &[u16]) -> Option<Walked>
     requires depth { depth ≤ most_splits }
     requires path { length path ≡ most_splits }
     ensures { Walks (tree_of depth (take (most_splits - depth) path) atoms tree.now) tree.now result }
 {
     if tree.len() == 0 {
-        return Walked::NoTree;
+        return None;
     }
     let atom = tree[0];
     if atom == 0 {
-        return Walked::Tree {
+        return Some(Walked {
             numbers: 1,
             ends: 1,
-        };
+        });
     }
     if depth == 0 {
-        return Walked::NoTree;
+        return None;
     }
     let mut below = path;
     if (atoms < words::wide(atom)) | is_on(&below[..MOST_SPLITS - depth], atom) {
-        return Walked::NoTree;
+        return None;
     }
     below[MOST_SPLITS - depth] = atom;
-    let first = shape(depth - 1, below, atoms, &tree[1..]);
-    match first {
-        Walked::NoTree => Walked::NoTree,
-        Walked::Tree { numbers, ends } => {
-            let rest = &tree[1..];
-            let second = shape(depth - 1, below, atoms, &rest[numbers..]);
-            joined(numbers, ends, second)
-        }
-    }
+    let sides = &tree[1..];
+    let first = shape(depth - 1, below, atoms, sides)?;
+    let second = shape(depth - 1, below, atoms, &sides[first.numbers..])?;
+    Some(Walked {
+        numbers: 1 + first.numbers + second.numbers,
+        ends: first.ends + second.ends,
+    })
 }
 
 // The lengths add up to the size.
@@ -88,13 +62,11 @@ fn adds_up(lengths: &[u64], size: usize) -> bool
     ensures { result ≡ eqb (sum lengths.now) size }
 {
     let mut left = size as u64;
-    let mut i = 0;
-    while i < lengths.len() {
-        if left < lengths[i] {
+    for length in lengths {
+        if left < *length {
             return false;
         }
-        left -= lengths[i];
-        i += 1;
+        left -= *length;
     }
     left == 0
 }
@@ -104,9 +76,9 @@ pub fn is_tree(atoms: usize, tree: &[u16], size: usize, lengths: &[u64]) -> bool
     ensures { result ≡ is_tree (tree_of most_splits [] atoms tree.now) size lengths.now }
 {
     match shape(MOST_SPLITS, [0; MOST_SPLITS], atoms, tree) {
-        Walked::NoTree => false,
-        Walked::Tree { numbers, ends } => {
-            (numbers == tree.len()) & (ends == lengths.len()) & adds_up(lengths, size)
+        None => false,
+        Some(walked) => {
+            (walked.numbers == tree.len()) & (walked.ends == lengths.len()) & adds_up(lengths, size)
         }
     }
 }

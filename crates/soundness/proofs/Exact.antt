@@ -26,7 +26,6 @@ use Rattle.aspif.specs.Reading.{Reading, refused, program, read_lines, read_text
 use Rattle.aspif.specs.Text.{program_text}
 use Rattle.aspif.specs.declared.Kind.{Kind}
 use Rattle.aspif.specs.declared.Kind.TheVariants.{Normal, Choice}
-use Rattle.aspif.specs.declared.ProgramReading.TheVariants.{Read}
 use Rattle.aspif.proofs.PairWords.{literals-arranged, length-arranged, length_pairs}
 use Rattle.aspif.proofs.Formed.{Formed, FitsTable, Weighing, inside, inside_of, no_zero, read_fits}
 use Rattle.aspif.proofs.Spelled.{sorted_body, sorted_rule, Once, read-spelled}
@@ -35,6 +34,8 @@ use Rattle.checker.proofs.Verdicts.{lines-read}
 use Rattle.costs.proofs.Order.{arranged-reorder}
 use Rattle.soundness.specs.Exact.{HeadCount, BodyCount, Named, Good, Within, ReadPrinted}
 use Rattle.soundness.proofs.Printed.{same-told}
+use Rattle.std.specs.Prelude.{Ok}
+use Rattle.aspif.specs.declared.ProgramFault.TheVariants.{TooLong}
 
 -- What stays when a rule is put in order
 
@@ -177,7 +178,7 @@ short : (size : ℕ) (text : List ℕ) (rs : List InputRule) → read_text size 
 unfolding read_text
 short size text rs e = by (leb (length text) longest) refl e
   where
-    by : (b : Bool) → leb (length text) longest ≡ b → cond b (read_lines size text) (refused 1 0) ≡ program rs → length text ≤ longest
+    by : (b : Bool) → leb (length text) longest ≡ b → cond b (read_lines size text) (refused TooLong 0) ≡ program rs → length text ≤ longest
     by true q e = leb-true (length text) longest q
     by false q e = absurd (zero_one (cc))
 
@@ -187,10 +188,10 @@ read-printed text table table' r p N R = (to, from)
     Is : Type 0
     Is = (ws : List InputRule) × (text ≡ program_text ws) × Within (length text) (length table) ws × (N ≡ atoms ws) × (R ≡ length ws)
 
-    to : r ≡ Read N R → Is
+    to : r ≡ Ok (record { atoms = N; rules = R }) → Is
     to y = by (read_text (length table) text) refl (sym y ∙ p.answer)
       where
-        by : (x : Reading) → read_text (length table) text ≡ x → Read N R ≡ program_answer x → Is
+        by : (x : Reading) → read_text (length table) text ≡ x → Ok (record { atoms = N; rules = R }) ≡ program_answer x → Is
         by (refused k n) e q = absurd (zero_one (cc))
         by (program rs) e q =
             let s = read-spelled (length table) text rs e in
@@ -210,11 +211,11 @@ read-printed text table table' r p N R = (to, from)
               t.1 ∙ ap length s.rules ∙ c,
             )
 
-    from : Is → r ≡ Read N R
+    from : Is → r ≡ Ok (record { atoms = N; rules = R })
     from i =
         let ws = i.0 in
         let w = i.2 in
         let f : Fits (length table) [] ws = record { passes = λ v j. passes_of v (w.good v j); few = omega (arith, w.rules-few); room = omega (arith, w.words-few, all_words ws) } in
         let e = ap (read_text (length table)) i.1 ∙ taken-read (length table) ws f (rw i.1 at w.bytes-few) in
         p.answer ∙ ap program_answer e
-        ∙ ap₂ (λ (a b : ℕ). Read a b) (atoms-sorted ws ∙ sym i.3) (length-map ws sorted_rule ∙ sym i.4)
+        ∙ ap₂ (λ (a b : ℕ). Ok (record { atoms = a; rules = b })) (atoms-sorted ws ∙ sym i.3) (length-map ws sorted_rule ∙ sym i.4)

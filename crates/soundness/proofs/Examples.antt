@@ -21,10 +21,9 @@ use Rattle.runs.specs.Course.{course_within}
 use Rattle.checker.specs.Check.{check_within}
 use Rattle.checker.specs.Report.{printed}
 use Rattle.aspif.specs.Text.{rule_text, rules_text, program_text}
-use Rattle.cheapest.specs.Service.{cheapest}
+use Rattle.cheapest.specs.Service.{CheapestAnswer, cheapest}
 use Rattle.cheapest.specs.Examples.{text_b, proof_q, cost_list}
-use Rattle.cheapest.specs.declared.CheapestAnswer.{CheapestAnswer}
-use Rattle.cheapest.specs.declared.CheapestAnswer.TheVariants.{Cheapest}
+use Rattle.std.specs.Prelude.{Ok}
 use Rattle.cheapest.proofs.Examples as Cases
 use Rattle.soundness.specs.Page.{every, Least, derive, HasNone, IsCheapest}
 use Rattle.soundness.specs.Examples.{one, seven, two, two_costs, Worked}
@@ -44,7 +43,7 @@ two-text = refl
 two-cheapest : IsCheapest two two_costs (1 ∷ []) 3
 two-cheapest =
     let x = cheapest 20 60 text_b (1 ∷ []) cost_list proof_q in
-    let e : record { answer = Cheapest 3; table = x.table; store = x.store } ≡ x =
+    let e : record { answer = Ok 3; table = x.table; store = x.store } ≡ x =
     ap (λ (a : CheapestAnswer). record { answer = a; table = x.table; store = x.store }) (sym (Cases.worked).good) in
     cheapest-printed two (1 ∷ []) two_costs proof_q (replicate 20 (pos 0)) (replicate 60 (pos 0)) x.table x.store 3
     (e ∙ ap (λ (text : List ℕ). cheapest 20 60 text (1 ∷ []) cost_list proof_q) (sym two-text))

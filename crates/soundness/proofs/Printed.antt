@@ -18,7 +18,6 @@ use Rattle.aspif.specs.AnswerSets.{AnswerSet}
 use Rattle.aspif.specs.Reading.{Reading, refused, program, read_text_within, read_text, program_answer, table_of, ProgramRead}
 use Rattle.aspif.specs.Tables.{rules_of}
 use Rattle.aspif.specs.Text.{program_text}
-use Rattle.aspif.specs.declared.ProgramReading.TheVariants.{Read}
 use Rattle.aspif.proofs.Formed.{read_fits}
 use Rattle.aspif.proofs.Readable.{table-back, table-read}
 use Rattle.aspif.proofs.Spelled.{sorted_rule, Once, within-spelled, read-spelled}
@@ -36,6 +35,9 @@ use Rattle.soundness.specs.Page.{IsAnswerSet, HasNone, SoundPrinted, OnlyPrinted
 use Rattle.soundness.proofs.Once.{same-cons, printed-once}
 use Rattle.soundness.proofs.Direct.{plain-set, direct-set}
 use Rattle.soundness.proofs.Orders.{sorted-set, written-set, sorted-with}
+use Rattle.std.specs.Prelude.{Result, Ok}
+use Rattle.aspif.specs.declared.ProgramCounts.{ProgramCounts}
+use Rattle.aspif.specs.declared.ProgramRefusal.{ProgramRefusal}
 
 -- What is read of the text of a program are its rules in order, and no others
 pub record InOrder (ws rs : List InputRule) : Type 0 where
@@ -120,8 +122,10 @@ only-line text proof more e = let s = line-sound text proof more e in is-text le
 
 -- The set test after the reader
 
-pub same-told : {M N R S : ℕ} → Read M R ≡ Read N S → (M ≡ N) × (R ≡ S)
-same-told e = (cc, cc)
+pub same-told : {M N R S : ℕ} → ◌≡◌ {A = Result ProgramCounts ProgramRefusal} (Ok (record { atoms = M; rules = R })) (Ok (record { atoms = N; rules = S })) → (M ≡ N) × (R ≡ S)
+same-told {M} {N} {R} {S} e =
+    let c : ◌≡◌ {A = ProgramCounts} (record { atoms = M; rules = R }) (record { atoms = N; rules = S }) = cc in
+    (ap (λ (x : ProgramCounts). x.atoms) c, ap (λ (x : ProgramCounts). x.rules) c)
 
 -- the table that is left holds the rules in order, and their largest atom was told
 pub record Kept (ws : List InputRule) (table : List ℤ) (N R : ℕ) : Type 0 where
@@ -130,10 +134,10 @@ pub record Kept (ws : List InputRule) (table : List ℤ) (N R : ℕ) : Type 0 wh
   pub held : rules_of table R ≡ some rs
   pub largest : N ≡ atoms rs
 
-pub kept : (ws : List InputRule) (table table' : List ℤ) (N R : ℕ) → ProgramRead (program_text ws) table table' (Read N R) → Kept ws table' N R
+pub kept : (ws : List InputRule) (table table' : List ℤ) (N R : ℕ) → ProgramRead (program_text ws) table table' (Ok (record { atoms = N; rules = R })) → Kept ws table' N R
 kept ws table table' N R p = by (read_text (length table) (program_text ws)) refl p.answer p.table
   where
-    by : (x : Reading) → read_text (length table) (program_text ws) ≡ x → Read N R ≡ program_answer x → table' ≡ table_of (length table) x → Kept ws table' N R
+    by : (x : Reading) → read_text (length table) (program_text ws) ≡ x → Ok (record { atoms = N; rules = R }) ≡ program_answer x → table' ≡ table_of (length table) x → Kept ws table' N R
     by (refused k n) e q u = absurd (zero_one (cc))
     by (program rs) e q u =
         record {
@@ -163,7 +167,7 @@ yes-printed ws table table' N R p l marks marks' r t = (there, back)
     Passes : Type 0
     Passes = (ascends 0 N l ≡ true) × (length marks ≡ entries) × IsAnswerSet Listed ws
 
-    there : r ≡ Yes → Passes
+    there : r ≡ Ok Yes → Passes
     there y =
         let s = (service-yes table' R l marks marks' r t).0 y in
         let same : s.0 ≡ h.rs = some-injective s.0 h.rs (sym ((table-read table' R s.0).1 s.1) ∙ h.held) in (
@@ -172,7 +176,7 @@ yes-printed ws table table' N R p l marks marks' r t = (there, back)
           as_written h.order Listed (subst (λ (v : List InputRule). AnswerSet Listed (expand v)) same s.4),
         )
 
-    back : Passes → r ≡ Yes
+    back : Passes → r ≡ Ok Yes
     back m =
         (service-yes table' R l marks marks' r t).1 (
           h.rs,

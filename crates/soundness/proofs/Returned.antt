@@ -6,7 +6,7 @@
 use mathlib.Core.Path.{◌≡◌, refl, sym, ◌∙◌, ap, subst}
 use mathlib.Core.Option.{Option, none, some}
 use mathlib.Core.List.{List, [], ◌∷◌}
-use Prim.Native.Nat.{ℕ, ◌+◌, ◌-◌}
+use Prim.Native.Nat.{ℕ, ◌-◌}
 use native.Mathlib.Omega.{arith}
 use lib.Dec.{eqb, leb}
 use lib.IntN.{ℤ}
@@ -20,11 +20,11 @@ use Rattle.aspif.specs.Rules.{InputRule, atoms}
 use Rattle.aspif.specs.Reading.{Reading, refused, program, read_text_within, read_text, program_answer, ProgramRead}
 use Rattle.aspif.specs.Tables.{rules_of}
 use Rattle.aspif.specs.Text.{program_text}
-use Rattle.aspif.specs.declared.ProgramReading.TheVariants.{Read}
 use Rattle.marks.specs.Marks.{listed}
 use Rattle.answer_set.specs.SetTest.{SetVerdict, yes, differs, breaks, verdict_of, asked_of, asked, said_of, set_answer}
 use Rattle.answer_set.specs.declared.SetAnswer.{SetAnswer}
 use Rattle.answer_set.specs.declared.SetAnswer.TheVariants.{Yes}
+use Rattle.answer_set.specs.declared.SetFault.{SetFault}
 use Rattle.derivation.specs.Steps.{empty_live}
 use Rattle.runs.specs.Course.{Course, stopped, through}
 use Rattle.checker.specs.Check.{CheckedTexts, CheckedLong}
@@ -32,19 +32,21 @@ use Rattle.checker.specs.declared.Counts.{Counts}
 use Rattle.checker.specs.declared.Verdict.{Verdict}
 use Rattle.checker.specs.declared.Verdict.TheVariants.{Inconsistent, Open, RefusedProgram, RefusedProof}
 use Rattle.costs.specs.Costs.{Cost, costs_of, good_costs, total}
-use Rattle.cheapest.specs.Service.{is_yes, restricted_course, CheapestLeft, leaves_nothing, judged_proof, with_cost, with_costs, cheapest_reading, cheapest, CheckedCheapest}
-use Rattle.cheapest.specs.declared.CheapestAnswer.{CheapestAnswer}
-use Rattle.cheapest.specs.declared.CheapestAnswer.TheVariants as Answers
+use Rattle.cheapest.specs.Service.{CheapestAnswer, is_yes, restricted_course, CheapestLeft, leaves_nothing, judged_proof, with_cost, with_costs, cheapest_reading, cheapest, CheckedCheapest}
+use Rattle.aspif.specs.declared.Refusal.TheVariants.{Service}
+use Rattle.cheapest.specs.declared.CheapestFault.{CheapestFault}
+use Rattle.cheapest.specs.declared.CheapestFault.TheVariants.{WrongSet, WrongCosts, NotCertified}
 use Rattle.sums.specs.Levels.{split_program, sorted_groups}
-use Rattle.long_sums.specs.Service.{SplitLeft, is_group_size, is_writable, split_reading, split_text, SplitSums}
-use Rattle.long_sums.specs.declared.SplitAnswer.TheVariants as Sums
+use Rattle.long_sums.specs.Service.{split_into, SplitLeft, is_group_size, is_writable, split_reading, split_text, SplitSums}
 use Rattle.exports.specs.Services.{ProgramService, CheapestService, SplitService}
 use Rattle.exports.specs.Codes.{Told, program_code, program_numbers, set_code, verdict_code, verdict_numbers, cheapest_code, cheapest_numbers, split_code, split_numbers}
 use Rattle.soundness.specs.Page.{IsCheapest, SoundReturned, OnlyReturned, SoundLongReturned, OnlyLongReturned, YesReturned, SoundSplitReturned, SoundSplitLongReturned, YesSplitReturned, FoundSplitReturned, OnlySplitReturned, CheapestReturned, OnlyCheapestReturned}
-use Rattle.soundness.proofs.Numbers.{Numbered, within-numbered, read-numbered}
+use Rattle.aspif.specs.Numbers.{number_of}
+use Rattle.soundness.proofs.Numbers.{numbered}
 use Rattle.soundness.proofs.Printed.{sound-printed, only-printed, sound-long, only-long, yes-printed}
 use Rattle.soundness.proofs.Split.{sound-split, sound-split-long, yes-split, only-split, found-split}
 use Rattle.soundness.proofs.Cheapest.{cheapest-printed, only-cheapest}
+use Rattle.std.specs.Prelude.{Result, Ok, Err}
 
 -- The whole check
 
@@ -92,16 +94,16 @@ front-two (b ∷ []) e = absurd (zero_one (cc))
 front-two (b ∷ c ∷ before) e = (cc, cc)
 
 -- the program that was read is told by 0, N and R
-is_read : (x : Reading) → Numbered x → 0 ≡ program_code (program_answer x) → (before : List ℕ) {more : List ℕ} {N R : ℕ}
-    → N ∷ R ∷ more ≡ sets before 0 (program_numbers (program_answer x)) → program_answer x ≡ Read N R
-is_read (refused k n) p e before w = absurd (omega (arith, p))
-is_read (program rs) p e before w = let f = front-two before w in rw (f.0, f.1) refl
+is_read : (x : Reading) → 0 ≡ program_code (program_answer x) → (before : List ℕ) {more : List ℕ} {N R : ℕ}
+    → N ∷ R ∷ more ≡ sets before 0 (program_numbers (program_answer x)) → program_answer x ≡ Ok (record { atoms = N; rules = R })
+is_read (refused k n) e before w = absurd (let q : 0 ≡ number_of k = e in omega (arith, q, numbered k))
+is_read (program rs) e before w = let f = front-two before w in rw (f.0, f.1) refl
 
 -- an answer of which 0 is returned is yes
-abbrev OnlyYes : SetAnswer → Type 0
-OnlyYes a = set_code a ≡ 0 → a ≡ Yes
+abbrev OnlyYes : Result SetAnswer SetFault → Type 0
+OnlyYes a = set_code a ≡ 0 → a ≡ Ok Yes
 
-said-only : (v : SetVerdict) → OnlyYes (said_of v)
+said-only : (v : SetVerdict) → OnlyYes (Ok (said_of v))
 said-only yes e = refl
 said-only (differs v) e = absurd (omega arith)
 said-only (breaks k) e = absurd (omega arith)
@@ -119,12 +121,12 @@ answer-only table R l n = asked-only (rules_of table R) l n
 
 -- where 0 is returned, the numbers at the front of the buffer are those of the program that was read
 read-so : {text : List ℕ} {table table' : List ℤ} {before more : List ℕ} {N R : ℕ}
-    → ProgramService text table table' before (N ∷ R ∷ more) 0 → ProgramRead text table table' (Read N R)
+    → ProgramService text table table' before (N ∷ R ∷ more) 0 → ProgramRead text table table' (Ok (record { atoms = N; rules = R }))
 read-so {text} {table} {table'} {before} {N = N} {R = R} s =
     let x = read_text (length table) text in
     let q : program_answer x ≡ s.reading = sym s.read.answer in
-    let taken : program_answer x ≡ Read N R =
-    is_read x (read-numbered (length table) text) (s.told.returned ∙ ap program_code (sym q)) before (s.told.written ∙ ap (λ r. sets before 0 (program_numbers r)) (sym q)) in
+    let taken : program_answer x ≡ Ok (record { atoms = N; rules = R }) =
+    is_read x (s.told.returned ∙ ap program_code (sym q)) before (s.told.written ∙ ap (λ r. sets before 0 (program_numbers r)) (sym q)) in
     subst (ProgramRead text table table') (sym q ∙ taken) s.read
 
 pub yes-returned : YesReturned
@@ -137,12 +139,12 @@ yes-returned ws table table' before more N R s l marks marks' answer answer' cod
 
 -- an outcome of which 0 is returned is a text that was written
 abbrev WrittenOnly : SplitLeft → Type 0
-WrittenOnly x = 0 ≡ split_code x.answer → (b : ℕ) × (a : ℕ) × (r : ℕ) × (n : ℕ) × (x.answer ≡ Sums.Split b a r n)
+WrittenOnly x = 0 ≡ split_code x.answer → (b : ℕ) × (a : ℕ) × (r : ℕ) × (n : ℕ) × (x.answer ≡ split_into b a r n)
 
 module _ (t o g : ℕ) where
-  reading-split : (x : Reading) → Numbered x → WrittenOnly (split_reading t o g x)
-  reading-split (refused k n) p = λ e. absurd (omega (arith, p))
-  reading-split (program rs) p =
+  reading-split : (x : Reading) → WrittenOnly (split_reading t o g x)
+  reading-split (refused k n) = λ e. absurd (let q : 0 ≡ number_of k = e in omega (arith, q, numbered k))
+  reading-split (program rs) =
       by-test WrittenOnly (is_group_size g)
       (λ q.
       by-test WrittenOnly (is_writable o (split_program (sorted_groups (g - 1)) rs)) (λ w e. (_, _, _, _, refl)) (λ w e. absurd (omega arith)))
@@ -150,9 +152,9 @@ module _ (t o g : ℕ) where
 
   split-only : (text : List ℕ) → WrittenOnly (split_text t o text g)
   unfolding split_text
-  split-only text = reading-split (read_text_within most_literals t text) (within-numbered most_literals t text)
+  split-only text = reading-split (read_text_within most_literals t text)
 
-front-four : {a b c d x y z w : ℕ} (before : List ℕ) {more : List ℕ} → x ∷ y ∷ z ∷ w ∷ more ≡ sets before 0 (a ∷ b ∷ c ∷ d ∷ []) → Sums.Split a b c d ≡ Sums.Split x y z w
+front-four : {a b c d x y z w : ℕ} (before : List ℕ) {more : List ℕ} → x ∷ y ∷ z ∷ w ∷ more ≡ sets before 0 (a ∷ b ∷ c ∷ d ∷ []) → split_into a b c d ≡ split_into x y z w
 front-four [] e = absurd (zero_one (cc))
 front-four (_ ∷ []) e = absurd (zero_one (cc))
 front-four (_ ∷ _ ∷ []) e = absurd (zero_one (cc))
@@ -161,7 +163,7 @@ front-four (_ ∷ _ ∷ _ ∷ _ ∷ before) e = cc
 
 -- where 0 is returned, the numbers at the front of the buffer are the answer's
 split-so : {text : List ℕ} {g : ℕ} {table table' : List ℤ} {output output' before more : List ℕ} {b a r n : ℕ}
-    → SplitService text g table table' output output' before (b ∷ a ∷ r ∷ n ∷ more) 0 → SplitSums text g table table' output output' (Sums.Split b a r n)
+    → SplitService text g table table' output output' before (b ∷ a ∷ r ∷ n ∷ more) 0 → SplitSums text g table table' output output' (split_into b a r n)
 split-so {text} {g} {table} {table'} {output} {output'} {before} s =
     let q : s.answered ≡ (split_text (length table) (length output) text g).answer = ap (λ (x : SplitLeft). x.answer) s.split in
     let p = split-only (length table) (length output) g text (s.told.returned ∙ ap split_code q) in
@@ -200,46 +202,48 @@ only-split-returned text g table table' output output' before more b a r N s = o
 
 -- an outcome of which 0 is returned passes
 abbrev OnlyCheap : CheapestLeft → Type 0
-OnlyCheap x = 0 ≡ cheapest_code x.answer → (C : ℕ) × (x.answer ≡ Answers.Cheapest C)
+OnlyCheap x = 0 ≡ cheapest_code x.answer → (C : ℕ) × (x.answer ≡ Ok C)
 
 module _ (t s : ℕ) where
-  nothing : (k : ℕ) → OnlyCheap (leaves_nothing t s (Answers.Refused (k + 1)))
-  nothing k e = absurd (omega arith)
+  nothing : (k : CheapestFault) → OnlyCheap (leaves_nothing t s (Err (Service k)))
+  nothing WrongSet e = absurd (omega arith)
+  nothing WrongCosts e = absurd (omega arith)
+  nothing NotCertified e = absurd (omega arith)
 
   judged : (ws : List InputRule) (C : ℕ) (o : Course) → OnlyCheap (judged_proof t s ws C o)
-  judged ws C (stopped k n) = nothing 62
-  judged ws C (through n z stored) = by-test OnlyCheap (empty_live z) (λ p e. (C, refl)) (λ p. nothing 62)
+  judged ws C (stopped k n) = nothing NotCertified
+  judged ws C (through n z stored) = by-test OnlyCheap (empty_live z) (λ p e. (C, refl)) (λ p. nothing NotCertified)
 
   with-cost : (ws : List InputRule) (set : List ℕ) (ks : List Cost) (C : ℕ) (proof : List ℕ) → OnlyCheap (with_cost t s ws set ks C proof)
   with-cost ws set ks C proof =
       by-test OnlyCheap (leb C most_weight)
-      (λ p. by-test OnlyCheap (is_yes (verdict_of (listed set) ws)) (λ p. by-test OnlyCheap (eqb C 0) (λ p e. (0, refl)) (λ p. judged ws C (restricted_course s ws ks C proof))) (λ p. nothing 62))
-      (λ p. nothing 61)
+      (λ p. by-test OnlyCheap (is_yes (verdict_of (listed set) ws)) (λ p. by-test OnlyCheap (eqb C 0) (λ p e. (0, refl)) (λ p. judged ws C (restricted_course s ws ks C proof))) (λ p. nothing NotCertified))
+      (λ p. nothing WrongCosts)
 
   with-costs : (ws : List InputRule) (set : List ℕ) (o : Option (List Cost)) (proof : List ℕ) → OnlyCheap (with_costs t s ws set o proof)
-  with-costs ws set none proof = nothing 61
+  with-costs ws set none proof = nothing WrongCosts
   with-costs ws set (some ks) proof =
-      by-test OnlyCheap (good_costs (atoms ws) ks) (λ p. with-cost ws set ks (total (listed set) ks) proof) (λ p. nothing 61)
+      by-test OnlyCheap (good_costs (atoms ws) ks) (λ p. with-cost ws set ks (total (listed set) ks) proof) (λ p. nothing WrongCosts)
 
-  reading-only : (set : List ℕ) (costs : List ℤ) (proof : List ℕ) (x : Reading) → Numbered x → OnlyCheap (cheapest_reading t s set costs proof x)
-  reading-only set costs proof (refused k n) p = λ e. absurd (omega (arith, p))
-  reading-only set costs proof (program ws) p =
-      by-test OnlyCheap (ascends 0 (atoms ws) set) (λ p. with-costs ws set (costs_of costs) proof) (λ p. nothing 41)
+  reading-only : (set : List ℕ) (costs : List ℤ) (proof : List ℕ) (x : Reading) → OnlyCheap (cheapest_reading t s set costs proof x)
+  reading-only set costs proof (refused k n) = λ e. absurd (let q : 0 ≡ number_of k = e in omega (arith, q, numbered k))
+  reading-only set costs proof (program ws) =
+      by-test OnlyCheap (ascends 0 (atoms ws) set) (λ p. with-costs ws set (costs_of costs) proof) (λ p. nothing WrongSet)
 
   cheap-only : (text set : List ℕ) (costs : List ℤ) (proof : List ℕ) → OnlyCheap (cheapest t s text set costs proof)
   unfolding cheapest
-  cheap-only text set costs proof = reading-only set costs proof (read_text t text) (read-numbered t text)
+  cheap-only text set costs proof = reading-only set costs proof (read_text t text)
 
 -- where 0 is returned, the answer was a cost, and its number stands at the front of the buffer
 module _ {text l : List ℕ} {costs : List ℤ} {proof : List ℕ} {table store table' store' : List ℤ} {answer answer' : List ℕ}
     (s : CheapestService text l costs proof table store table' store' answer answer' 0) where
-  is-cost : (C : ℕ) × (s.answered ≡ Answers.Cheapest C)
+  is-cost : (C : ℕ) × (s.answered ≡ Ok C)
   is-cost =
       let q : s.answered ≡ (cheapest (length table) (length store) text l costs proof).answer = ap (λ (x : CheapestLeft). x.answer) s.checked in
       let p = cheap-only (length table) (length store) text l costs proof (s.told.returned ∙ ap cheapest_code q) in
       (p.0, q ∙ p.1)
 
-  cheapest-so : CheckedCheapest text l costs proof table store table' store' (Answers.Cheapest is-cost.0)
+  cheapest-so : CheckedCheapest text l costs proof table store table' store' (Ok is-cost.0)
   cheapest-so = subst (λ (r : CheapestAnswer). CheckedCheapest text l costs proof table store table' store' r) is-cost.1 s.checked
 
   in-front : answer' ≡ sets answer 0 (is-cost.0 ∷ [])

@@ -22,7 +22,6 @@ use Rattle.aspif.specs.Rules.{Body, plain, weights, InputRule, expand, atoms, bo
 use Rattle.aspif.specs.AnswerSets.{AnswerSet}
 use Rattle.aspif.specs.Reading.{Reading, refused, program, read_text_within, read_lines, read_text, program_answer, ProgramRead}
 use Rattle.aspif.specs.Claims.{FormedWithin}
-use Rattle.aspif.specs.declared.ProgramReading.TheVariants.{Read}
 use Rattle.aspif.specs.Text.{body_numbers, rule_numbers, rule_text, rules_text, program_text}
 use Rattle.aspif.proofs.Formed.{within-fits}
 use Rattle.aspif.proofs.Spelled.{within-spelled}
@@ -42,11 +41,17 @@ use Rattle.sums.proofs.Levels.{program-sound, program-keeps, program-agrees, pro
 use Rattle.sums.proofs.Sorted.{sorted-groups}
 use Rattle.sums.proofs.Formed.{split-read}
 use Rattle.long_sums.proofs.Answers.{past_first}
-use Rattle.long_sums.specs.Service.{SplitLeft, is_group_size, is_writable, zeroed, written, split_to, split_reading, split_text, SplitSums}
-use Rattle.long_sums.specs.declared.SplitAnswer.TheVariants.{Split, Refused}
+use Rattle.long_sums.specs.Service.{split_into, SplitLeft, is_group_size, is_writable, zeroed, written, split_to, split_reading, split_text, SplitSums}
+use Rattle.aspif.specs.declared.Refusal.TheVariants.{Service}
+use Rattle.long_sums.specs.declared.SplitFault.TheVariants.{WrongGroupSize, TooLarge}
 use Rattle.soundness.specs.Page.{IsAnswerSet, HasNone, SoundSplit, SoundSplitLong, YesSplit, FoundSplit, ExtendsSplit, ReadSplit, OnlySplit}
 use Rattle.soundness.proofs.Printed.{InOrder, within-in-order, none_within, has-none, kept, as_written, as_read, yes-printed}
 use Rattle.soundness.proofs.Direct.{plain-set, direct-set}
+use Rattle.std.specs.Prelude.{Result, Ok, Err}
+use Rattle.aspif.specs.declared.ProgramCounts.{ProgramCounts}
+use Rattle.aspif.specs.declared.ProgramRefusal.{ProgramRefusal}
+use Rattle.long_sums.specs.declared.SplitCounts.{SplitCounts}
+use Rattle.aspif.specs.declared.ProgramFault.TheVariants.{TooLong}
 
 -- Rules that can be written, as question 66 asks
 pub record Writable (vs : List InputRule) : Type 0 where
@@ -85,8 +90,10 @@ pub record Wrote (ws : List InputRule) (text : List ℕ) (b a r N : ℕ) : Type 
   pub small : k < most_weighted
   pub told : Told text b a r N rs (split_program (sorted_groups k) rs)
 
-same-split : {b a r n b' a' r' n' : ℕ} → Split b a r n ≡ Split b' a' r' n' → (b ≡ b') × (a ≡ a') × (r ≡ r') × (n ≡ n')
-same-split e = (cc, cc, cc, cc)
+same-split : {b a r n b' a' r' n' : ℕ} → split_into b a r n ≡ split_into b' a' r' n' → (b ≡ b') × (a ≡ a') × (r ≡ r') × (n ≡ n')
+same-split {b} {a} {r} {n} {b'} {a'} {r'} {n'} e =
+    let c : ◌≡◌ {A = SplitCounts} (record { bytes = b; atoms = a; rules = r; old_atoms = n }) (record { bytes = b'; atoms = a'; rules = r'; old_atoms = n' }) = cc in
+    (ap (λ (x : SplitCounts). x.bytes) c, ap (λ (x : SplitCounts). x.atoms) c, ap (λ (x : SplitCounts). x.rules) c, ap (λ (x : SplitCounts). x.old_atoms) c)
 
 module _ (ws : List InputRule) (g : ℕ) (table table' : List ℤ) (output output' : List ℕ) (b a r N : ℕ) where
   abbrev t : ℕ
@@ -96,16 +103,16 @@ module _ (ws : List InputRule) (g : ℕ) (table table' : List ℤ) (output outpu
   o = length output
 
   abbrev Left : SplitLeft → Type 0
-  Left x = record { answer = Split b a r N; table = table'; output = output' } ≡ x
+  Left x = record { answer = split_into b a r N; table = table'; output = output' } ≡ x
 
   abbrev reading : Reading
   reading = read_text_within most_literals t (program_text ws)
 
-  wrote : SplitSums (program_text ws) g table table' output output' (Split b a r N) → Wrote ws (take b output') b a r N
+  wrote : SplitSums (program_text ws) g table table' output output' (split_into b a r N) → Wrote ws (take b output') b a r N
   unfolding split_text
   wrote = by reading refl
     where
-      split-to : (c : Bool) (rs vs : List InputRule) → is_writable o vs ≡ c → Left (cond c (written t o rs vs) (zeroed t o (Refused 66))) → Told (take b output') b a r N rs vs
+      split-to : (c : Bool) (rs vs : List InputRule) → is_writable o vs ≡ c → Left (cond c (written t o rs vs) (zeroed t o (Err (Service TooLarge)))) → Told (take b output') b a r N rs vs
       split-to true rs vs w e =
           let s = same-split (ap (λ (x : SplitLeft). x.answer) e) in
           record {
@@ -119,7 +126,7 @@ module _ (ws : List InputRule) (g : ℕ) (table table' : List ℤ) (output outpu
       split-to false rs vs w e = absurd (zero_one (let q = ap (λ (x : SplitLeft). x.answer) e in cc))
 
       by_size : (rs : List InputRule) → InOrder ws rs → ((r : InputRule) → r ∈ rs → FormedWithin most_literals r)
-          → (c : Bool) → is_group_size g ≡ c → Left (cond c (split_to t o rs (split_program (sorted_groups (g - 1)) rs)) (zeroed t o (Refused 65)))
+          → (c : Bool) → is_group_size g ≡ c → Left (cond c (split_to t o rs (split_program (sorted_groups (g - 1)) rs)) (zeroed t o (Err (Service WrongGroupSize))))
           → Wrote ws (take b output') b a r N
       by_size rs i f true q e =
           let vs = split_program (sorted_groups (g - 1)) rs in
@@ -176,7 +183,7 @@ module _ {ws : List InputRule} {text : List ℕ} {b a r N : ℕ} (w : Wrote ws t
 
   pub reads : (size : ℕ) → length text ≤ size → read_text size (program_text vs) ≡ program vs
   unfolding read_text
-  reads size h = ap (λ c. cond c (read_lines size (program_text vs)) (refused 1 0)) (le-leb (length (program_text vs)) longest w.told.can.short) ∙ lines size h
+  reads size h = ap (λ c. cond c (read_lines size (program_text vs)) (refused TooLong 0)) (le-leb (length (program_text vs)) longest w.told.can.short) ∙ lines size h
 
   -- The whole check
 
@@ -255,7 +262,8 @@ read-split ws g table table' output output' b a r N s words words' c h p =
     let w = wrote ws g table table' output output' b a r N s in
     let q = subst (λ (x : List ℕ). ProgramRead x words words' c) w.told.is p in
     let n : length (take b output') ≤ length words = omega (arith, h, w.told.bytes, ap length w.told.is) in
-    q.answer ∙ ap program_answer (reads w (length words) n) ∙ ap₂ Read (sym w.told.atoms_are) (sym w.told.rules)
+    let counts : (m k : ℕ) → Result ProgramCounts ProgramRefusal = λ m k. Ok (record { atoms = m; rules = k }) in
+    q.answer ∙ ap program_answer (reads w (length words) n) ∙ ap₂ counts (sym w.told.atoms_are) (sym w.told.rules)
 
 pub sound-split : SoundSplit
 sound-split ws g table table' output output' b a r N s = sound-wrote (wrote ws g table table' output output' b a r N s) longest
@@ -267,13 +275,13 @@ sound-split-long ws g table table' output output' b a r N s proof words store wo
 pub yes-split : YesSplit
 yes-split ws g table table' output output' b a r N s words words' A R p l marks marks' t =
     let w = wrote ws g table table' output output' b a r N s in
-    let q = subst (λ (x : List ℕ). ProgramRead x words words' (Read A R)) w.told.is p in
-    down_to w (λ v. v ∈ l) ((yes-printed (vs w) words words' A R q l marks marks' Yes t).0 refl).2
+    let q = subst (λ (x : List ℕ). ProgramRead x words words' (Ok (record { atoms = A; rules = R }))) w.told.is p in
+    down_to w (λ v. v ∈ l) ((yes-printed (vs w) words words' A R q l marks marks' (Ok Yes) t).0 refl).2
 
 pub found-split : FoundSplit
 found-split ws g table table' output output' b a r N s words words' A R p l S =
     let w = wrote ws g table table' output output' b a r N s in
-    let q = subst (λ (x : List ℕ). ProgramRead x words words' (Read A R)) w.told.is p in
+    let q = subst (λ (x : List ℕ). ProgramRead x words words' (Ok (record { atoms = A; rules = R }))) w.told.is p in
     let h = kept (vs w) words words' A R q in
     let u = up_from w (λ v. v ∈ l) S in
     let T = as_read h.order (with-new w (λ v. v ∈ l)) u.0 in
@@ -299,7 +307,7 @@ unfolding split_text
 only-split text g table table' output output' b a r N = by (read_text_within most_literals (length table) text) refl
   where
     by : (x : Reading) → read_text_within most_literals (length table) text ≡ x
-        → record { answer = Split b a r N; table = table'; output = output' } ≡ split_reading (length table) (length output) g x
+        → record { answer = split_into b a r N; table = table'; output = output' } ≡ split_reading (length table) (length output) g x
         → (ws : List InputRule) × (text ≡ program_text ws)
     by (refused k n) q e = absurd (zero_one (let q = ap (λ (x : SplitLeft). x.answer) e in cc))
     by (program rs) q e = let s = within-spelled most_literals (length table) text rs q in (s.ws, s.is)

@@ -1,7 +1,7 @@
 -- Which texts the reader takes, exactly, in the words of a writer: document 01, 'Program text', with Changes 3 and 6. Which number a text
 -- gets that is refused is said by specs/Reading.antt of `aspif` alone. proofs/Exact.antt proves the claim.
 -- Assumes nothing.
-use Rattle.std.specs.Prelude.{◌≡◌, ◌↔◌, List, [], ◌∷◌, ℕ, ◌≤◌, ℤ, pos, length}
+use Rattle.std.specs.Prelude.{◌≡◌, ◌↔◌, List, [], ◌∷◌, ℕ, ◌≤◌, ℤ, pos, length, Result, Ok}
 use Rattle.words.specs.Limits.{largest, longest, most_literals, most_rules}
 use Rattle.words.specs.Lists.{◌∈◌}
 use Rattle.words.specs.Literals.{variable}
@@ -10,9 +10,9 @@ use Rattle.aspif.specs.Rules.{Body, plain, weights, InputRule, literals_of, atom
 use Rattle.aspif.specs.Reading.{ProgramRead}
 use Rattle.aspif.specs.declared.Kind.{Kind}
 use Rattle.aspif.specs.declared.Kind.TheVariants.{Normal, Choice}
-use Rattle.aspif.specs.declared.ProgramReading.{ProgramReading}
-use Rattle.aspif.specs.declared.ProgramReading.TheVariants.{Read}
+use Rattle.aspif.specs.declared.ProgramCounts.{ProgramCounts}
 use Rattle.aspif.specs.Text.{program_text}
+use Rattle.aspif.specs.declared.ProgramRefusal.{ProgramRefusal}
 
 -- "A normal rule has 0 or 1 heads; .. A choice rule has 1 to 64."
 abbrev pub HeadCount : Kind → ℕ → Type 0
@@ -47,6 +47,6 @@ pub record Within (bytes words : ℕ) (ws : List InputRule) : Type 0 where
 -- the program's largest atom and how many rules it has
 abbrev pub ReadPrinted : Type 0
 ReadPrinted =
-    (text : List ℕ) (table table' : List ℤ) (r : ProgramReading) → ProgramRead text table table' r → (N R : ℕ)
-    → (r ≡ Read N R)
+    (text : List ℕ) (table table' : List ℤ) (r : Result ProgramCounts ProgramRefusal) → ProgramRead text table table' r → (N R : ℕ)
+    → (r ≡ Ok (record { atoms = N; rules = R }))
     ↔ ((ws : List InputRule) × (text ≡ program_text ws) × Within (length text) (length table) ws × (N ≡ atoms ws) × (R ≡ length ws))

@@ -4,7 +4,7 @@
 -- (`PrintedOnce`), Direct.antt (`SameAnswerSets`), Split.antt, Cheapest.antt and Returned.antt
 -- (services for C).
 -- Assumes nothing.
-use Rattle.std.specs.Prelude.{◌≡◌, ◌↔◌, true, List, ◌∷◌, ◌++◌, ℕ, suc, ◌≤◌, ℤ, pos, negsuc, length, take}
+use Rattle.std.specs.Prelude.{◌≡◌, ◌↔◌, true, List, ◌∷◌, ◌++◌, ℕ, suc, ◌≤◌, ℤ, pos, negsuc, length, take, Result, Ok}
 use Rattle.words.specs.Limits.{entries}
 use Rattle.words.specs.Lists.{◌∈◌, ascends}
 use Rattle.text.specs.Strings.{bytes}
@@ -15,22 +15,21 @@ use Rattle.aspif.specs.Text.{program_text}
 use Rattle.aspif.specs.AnswerSets.{AnswerSet}
 use Rattle.aspif.specs.Reading.{ProgramRead}
 use Rattle.aspif.specs.declared.Kind.TheVariants.{Choice}
-use Rattle.aspif.specs.declared.ProgramReading.{ProgramReading}
-use Rattle.aspif.specs.declared.ProgramReading.TheVariants.{Read}
+use Rattle.aspif.specs.declared.ProgramCounts.{ProgramCounts}
 use Rattle.derivation.specs.Claims.{WrittenConstraint}
 use Rattle.answer_set.specs.SetTest.{SetTested}
 use Rattle.answer_set.specs.declared.SetAnswer.{SetAnswer}
 use Rattle.answer_set.specs.declared.SetAnswer.TheVariants.{Yes}
+use Rattle.answer_set.specs.declared.SetFault.{SetFault}
 use Rattle.checker.specs.Check.{CheckedTexts, CheckedLong}
 use Rattle.checker.specs.Report.{printed}
 use Rattle.checker.specs.declared.Counts.{Counts}
 use Rattle.checker.specs.declared.Verdict.TheVariants.{Inconsistent}
-use Rattle.long_sums.specs.Service.{SplitSums}
-use Rattle.long_sums.specs.declared.SplitAnswer.TheVariants.{Split}
+use Rattle.long_sums.specs.Service.{split_into, SplitSums}
 use Rattle.costs.specs.Costs.{Costs}
 use Rattle.cheapest.specs.Service.{CheckedCheapest}
-use Rattle.cheapest.specs.declared.CheapestAnswer.TheVariants.{Cheapest}
 use Rattle.exports.specs.Services.{ProgramService, SetService, CheckService, LongService, CheapestService, SplitService}
+use Rattle.aspif.specs.declared.ProgramRefusal.{ProgramRefusal}
 
 -- Answer sets: document 01, 'Answer sets', of rules as they are written. A set is any predicate on
 -- numbers.
@@ -153,9 +152,9 @@ PrintedOnce = (ws vs : List InputRule) → program_text ws ≡ program_text vs �
 abbrev pub YesPrinted : Type 0
 YesPrinted =
     (ws : List InputRule) (table table' : List ℤ) (N R : ℕ)
-    → ProgramRead (program_text ws) table table' (Read N R)
-    → (l marks marks' : List ℕ) (r : SetAnswer) → SetTested table' R l marks marks' r
-    → (r ≡ Yes)
+    → ProgramRead (program_text ws) table table' (Ok (record { atoms = N; rules = R }))
+    → (l marks marks' : List ℕ) (r : Result SetAnswer SetFault) → SetTested table' R l marks marks' r
+    → (r ≡ Ok Yes)
     ↔ ((ascends 0 N l ≡ true) × (length marks ≡ entries) × IsAnswerSet (λ v. v ∈ l) ws)
 
 -- The same of the services for C and Rust: where `aspdrupe_read_program` returned 0 and its buffer
@@ -178,7 +177,7 @@ abbrev pub SoundSplit : Type 1
 SoundSplit =
     (ws : List InputRule) (group : ℕ) (table table' : List ℤ) (output output' : List ℕ)
     (bytes atoms rules N : ℕ)
-    → SplitSums (program_text ws) group table table' output output' (Split bytes atoms rules N)
+    → SplitSums (program_text ws) group table table' output output' (split_into bytes atoms rules N)
     → (proof : List ℕ) (words store words' store' : List ℤ) (c : Counts)
     → CheckedTexts (take bytes output') proof words store words' store' (Inconsistent c) → HasNone ws
 
@@ -187,7 +186,7 @@ abbrev pub SoundSplitLong : Type 1
 SoundSplitLong =
     (ws : List InputRule) (group : ℕ) (table table' : List ℤ) (output output' : List ℕ)
     (bytes atoms rules N : ℕ)
-    → SplitSums (program_text ws) group table table' output output' (Split bytes atoms rules N)
+    → SplitSums (program_text ws) group table table' output output' (split_into bytes atoms rules N)
     → (proof : List ℕ) (words store words' store' : List ℤ) (memory memory' : List ℕ) (c : Counts)
     → CheckedLong (take bytes output') proof words store words' store' memory memory' (Inconsistent c)
     → HasNone ws
@@ -198,9 +197,9 @@ abbrev pub YesSplit : Type 0
 YesSplit =
     (ws : List InputRule) (group : ℕ) (table table' : List ℤ) (output output' : List ℕ)
     (bytes atoms rules N : ℕ)
-    → SplitSums (program_text ws) group table table' output output' (Split bytes atoms rules N)
-    → (words words' : List ℤ) (A R : ℕ) → ProgramRead (take bytes output') words words' (Read A R)
-    → (l marks marks' : List ℕ) → SetTested words' R l marks marks' Yes
+    → SplitSums (program_text ws) group table table' output output' (split_into bytes atoms rules N)
+    → (words words' : List ℤ) (A R : ℕ) → ProgramRead (take bytes output') words words' (Ok (record { atoms = A; rules = R }))
+    → (l marks marks' : List ℕ) → SetTested words' R l marks marks' (Ok Yes)
     → IsAnswerSet (λ v. (v ≤ N) × (v ∈ l)) ws
 
 -- And every answer set is found so: the set test says yes of some set with the same atoms up to N
@@ -208,12 +207,12 @@ abbrev pub FoundSplit : Type 0
 FoundSplit =
     (ws : List InputRule) (group : ℕ) (table table' : List ℤ) (output output' : List ℕ)
     (bytes atoms rules N : ℕ)
-    → SplitSums (program_text ws) group table table' output output' (Split bytes atoms rules N)
-    → (words words' : List ℤ) (A R : ℕ) → ProgramRead (take bytes output') words words' (Read A R)
+    → SplitSums (program_text ws) group table table' output output' (split_into bytes atoms rules N)
+    → (words words' : List ℤ) (A R : ℕ) → ProgramRead (take bytes output') words words' (Ok (record { atoms = A; rules = R }))
     → (l : List ℕ) → IsAnswerSet (λ v. v ∈ l) ws
     → (k : List ℕ) × ((v : ℕ) → v ∈ l ↔ ((v ≤ N) × (v ∈ k)))
-    × ((marks marks' : List ℕ) (r : SetAnswer) → length marks ≡ entries
-    → SetTested words' R k marks marks' r → r ≡ Yes)
+    × ((marks marks' : List ℕ) (r : Result SetAnswer SetFault) → length marks ≡ entries
+    → SetTested words' R k marks marks' r → r ≡ Ok Yes)
 
 -- The same of any sets, listed or not: what was written is the text of a program, of which each answer
 -- set of the program as written has an extension that is one, with the same atoms up to N
@@ -221,7 +220,7 @@ abbrev pub ExtendsSplit : Type 1
 ExtendsSplit =
     (ws : List InputRule) (group : ℕ) (table table' : List ℤ) (output output' : List ℕ)
     (bytes atoms rules N : ℕ)
-    → SplitSums (program_text ws) group table table' output output' (Split bytes atoms rules N)
+    → SplitSums (program_text ws) group table table' output output' (split_into bytes atoms rules N)
     → (vs : List InputRule) × (take bytes output' ≡ program_text vs)
     × ((M : ℕ → Type 0) → IsAnswerSet M ws
     → (K : ℕ → Type 0) × IsAnswerSet K vs × ((a : ℕ) → M a ↔ ((a ≤ N) × K a)))
@@ -232,16 +231,16 @@ abbrev pub ReadSplit : Type 0
 ReadSplit =
     (ws : List InputRule) (group : ℕ) (table table' : List ℤ) (output output' : List ℕ)
     (bytes atoms rules N : ℕ)
-    → SplitSums (program_text ws) group table table' output output' (Split bytes atoms rules N)
-    → (words words' : List ℤ) (r : ProgramReading) → bytes ≤ length words
-    → ProgramRead (take bytes output') words words' r → r ≡ Read atoms rules
+    → SplitSums (program_text ws) group table table' output output' (split_into bytes atoms rules N)
+    → (words words' : List ℤ) (r : Result ProgramCounts ProgramRefusal) → bytes ≤ length words
+    → ProgramRead (take bytes output') words words' r → r ≡ Ok (record { atoms = atoms; rules = rules })
 
 -- Nothing is missed: a text whose sums are split is the text of a program
 abbrev pub OnlySplit : Type 0
 OnlySplit =
     (text : List ℕ) (group : ℕ) (table table' : List ℤ) (output output' : List ℕ)
     (bytes atoms rules N : ℕ)
-    → SplitSums text group table table' output output' (Split bytes atoms rules N)
+    → SplitSums text group table table' output output' (split_into bytes atoms rules N)
     → (ws : List InputRule) × (text ≡ program_text ws)
 
 -- The same of the services for C and Rust: where `aspdrupe_split_sums` returned 0, and its buffer
@@ -314,7 +313,7 @@ abbrev pub CheapestPrinted : Type 1
 CheapestPrinted =
     (ws : List InputRule) (l : List ℕ) (ks : List Weighted) (proof : List ℕ)
     (table store table' store' : List ℤ) (C : ℕ)
-    → CheckedCheapest (program_text ws) l (pair_words ks) proof table store table' store' (Cheapest C)
+    → CheckedCheapest (program_text ws) l (pair_words ks) proof table store table' store' (Ok C)
     → IsCheapest ws ks l C
 
 -- The same of the service for C and Rust, `aspdrupe_check_cheapest`: where it returns 0 and its buffer
@@ -331,7 +330,7 @@ CheapestReturned =
 abbrev pub OnlyCheapest : Type 0
 OnlyCheapest =
     (text l : List ℕ) (costs : List ℤ) (proof : List ℕ) (table store table' store' : List ℤ) (C : ℕ)
-    → CheckedCheapest text l costs proof table store table' store' (Cheapest C)
+    → CheckedCheapest text l costs proof table store table' store' (Ok C)
     → (ws : List InputRule) × (ks : List Weighted) × (text ≡ program_text ws) × (costs ≡ pair_words ks)
 
 abbrev pub OnlyCheapestReturned : Type 0

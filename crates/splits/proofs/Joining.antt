@@ -39,16 +39,17 @@ use Rattle.merging.proofs.Merged.{well-named}
 use Rattle.renaming.specs.Standing.{is_constraint}
 use Rattle.renaming.specs.Writing.{Writes}
 use Rattle.renaming.specs.Renames.{Halves, bodies_in, NewNames}
-use Rattle.renaming.specs.declared.lines.Wrote.{Wrote}
-use Rattle.renaming.specs.declared.lines.Wrote.TheVariants.{At, Over}
+use Rattle.std.proofs.Common.{Option, Some, None}
 use Rattle.renaming.proofs.SameNames.{same_half}
 use Rattle.renaming.proofs.Written.{above, and-false}
 use Rattle.splits.specs.Service.{are_halves, steps_in, merged_steps, is_writable}
 use Rattle.splits.specs.Halves.{LeftBy, HalvesChecked}
 use Rattle.splits.specs.Joined.{AddedTo, WrittenBy, written_in, HalfText, lines_of, closing, HalvesHeld}
 use Rattle.splits.specs.declared.texts.Added.{Added}
-use Rattle.splits.specs.declared.texts.Written.TheVariants.{Text, Refused}
 use Rattle.splits.proofs.Demands.{demanding-plain}
+use Rattle.drupe.specs.declared.ProofFault.{ProofFault}
+use Rattle.splits.specs.declared.MergeFault.TheVariants.{NotWritable}
+use Rattle.std.specs.Prelude.{Ok, Err}
 
 -- What the program has of a constraint
 
@@ -96,7 +97,7 @@ course-read : (N : ℕ) (P : List Rule) (size : ℕ) (text : List ℕ) (n : ℕ)
 unfolding course_within
 course-read N P size text n z stored e = by (steps_of text) e
   where
-    unread : (k m : ℕ) (c : Course) → then_stopped k m c ≡ through n z stored → ⊥
+    unread : (k : ProofFault) (m : ℕ) (c : Course) → then_stopped k m c ≡ through n z stored → ⊥
     unread k m (stopped j i) e = zero_one (cc)
     unread k m (through i y b) e = zero_one (cc)
 
@@ -210,7 +211,7 @@ module _ {table : List ℤ} {rules N v : ℕ} {first second known₁ known₂ na
         }
 
     -- the lines of both under the names of the array are the merged steps
-    pub merged-lines : {a b : Added} (t : AddedTo P (complement (pos v) ∷ []) a) (u : AddedTo P (pos v ∷ []) b) (before after : List ℕ) (r : Wrote)
+    pub merged-lines : {a b : Added} (t : AddedTo P (complement (pos v) ∷ []) a) (u : AddedTo P (pos v ∷ []) b) (before after : List ℕ) (r : Option ℕ)
         → Writes (lines_of (demanded-half t) (λ u. u) ++ (lines_of (forbidden-half u) (λ u. get_or new u 0) ++ closing)) before after 0 r
         → Writes (merged_steps h.ws v first second) before after 0 r
     unfolding merged demanded-half forbidden-half
@@ -221,7 +222,7 @@ module _ {table : List ℤ} {rules N v : ℕ} {first second known₁ known₂ na
 
   -- a line of the second half is over its limit
   pub merged-over : (before after : List ℕ) → all_fit (half P (neg_ℤ (pos v)) (second_names N ones twos) (bodies_in ones) [] twos) ≡ false
-      → Writes (merged_steps h.ws v first second) before after 0 Over
+      → Writes (merged_steps h.ws v first second) before after 0 None
   unfolding merged
   merged-over before after e =
       rw (
@@ -247,13 +248,6 @@ halves-kept {size = size} {ws = ws} {v = v} p k e = record {
 
 -- The text in the output
 
--- the answer
-pub over-size : (size : ℕ) {w : Wrote} (end : ℕ) → w ≡ At end → size < end → Refused 58 ≡ written_in size w
-over-size size end e h = rw (e, lt-ltb size end h)
-
-pub in_size : (size : ℕ) {w : Wrote} (end : ℕ) → w ≡ At end → end ≤ size → Text end ≡ written_in size w
-in_size size end e h = rw (e, le-ltb size end h)
-
 module _ (size : ℕ) (ws : List InputRule) (v : ℕ) (first second : List ℕ) (halves : are_halves size ws v first second ≡ true) where
   abbrev ms : List Step
   ms = merged_steps ws v first second
@@ -270,15 +264,15 @@ module _ (size : ℕ) (ws : List InputRule) (v : ℕ) (first second : List ℕ) 
       by true false e = refl
       by false b e = refl
 
-  pub text-written : (output output' : List ℕ) (w : Wrote) → output ≡ replicate (length output) 0 → length output' ≡ length output
+  pub text-written : (output output' : List ℕ) (w : Option ℕ) → output ≡ replicate (length output) 0 → length output' ≡ length output
       → Writes ms output output' 0 w → WrittenBy size ws v first second output' (written_in (length output') w)
-  text-written output output' Over z s w = inr (refl, halves, unwritable (length output') (subst (λ (n : ℕ). (all_fit ms && leb n longest) ≡ false) from_start w))
-  text-written output output' (At end) z s (p, f, l) = by (ltb (length output') end) refl
+  text-written output output' None z s w = inr (refl, halves, unwritable (length output') (subst (λ (n : ℕ). (all_fit ms && leb n longest) ≡ false) from_start w))
+  text-written output output' (Some end) z s (p, f, l) = by (ltb (length output') end) refl
     where
       o : ℕ
       o = length output'
 
-      by : (b : Bool) → ltb o end ≡ b → WrittenBy size ws v first second output' (cond b (Refused 58) (Text end))
+      by : (b : Bool) → ltb o end ≡ b → WrittenBy size ws v first second output' (cond b (Err NotWritable) (Ok end))
       by true e =
           let far : o < length (text_of ms) = omega (arith, ltb-true o end e, p.ends) in
           inr (refl, halves, and-false (all_fit ms) (and-false (leb (length (text_of ms)) longest) (above far)))

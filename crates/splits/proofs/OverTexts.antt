@@ -5,7 +5,6 @@ use mathlib.Core.Logic.{◌⊎◌, inl, inr}
 use mathlib.Core.Bool.{Bool, true, false, cond, ◌&&◌, true≢false}
 use mathlib.Core.List.{List, [], ◌∷◌, ◌++◌}
 use Prim.Native.Nat.{ℕ, ◌+◌, ◌-◌}
-use native.Mathlib.Omega.{arith}
 use lib.Dec.{leb}
 use lib.IntN.{ℤ, pos, neg_ℤ}
 use lib.ListN.{length, take, replicate}
@@ -32,11 +31,13 @@ use Rattle.merging.specs.Merge.{all_fit}
 use Rattle.merging.specs.Claims.{Accepted, InOr34, AcceptedAsWritten, demanding_as_written}
 use Rattle.merging.specs.Claims as Claims
 use Rattle.merging.proofs.AsWritten.{unsized-as-written, merged-as-written}
-use Rattle.splits.specs.declared.MergeAnswer.{MergeAnswer}
-use Rattle.splits.specs.declared.MergeAnswer.TheVariants.{Merged, RefusedProgram, Refused}
-use Rattle.splits.specs.Service.{are_halves, steps_in, merged_steps, is_writable, MergeLeft, leaves_nothing, judged_text, merged_reading, merge}
+use Rattle.splits.specs.Service.{are_halves, steps_in, merged_steps, is_writable, MergeLeft, leaves_nothing, judged_text, merged_reading, merge, MergeAnswer}
 use Rattle.splits.specs.Claims.{PastStore, MergedEnds, MergedText, Demand3Merged, AsChecked}
 use Rattle.splits.proofs.Stopping.{never-past, goes-past}
+use Rattle.drupe.specs.declared.ProofFault.TheVariants as Fault
+use Rattle.splits.specs.declared.MergeFault.TheVariants.{NotAccepted, NotWritable, StoreFull}
+use Rattle.aspif.specs.declared.Refusal.TheVariants.{Program, Service}
+use Rattle.std.specs.Prelude.{Ok, Err}
 
 -- Steps with question 34, as a course
 
@@ -54,12 +55,12 @@ module _ (N : ℕ) (P : List Rule) (size : ℕ) where
       after z' = run_steps N P size (n + 1) z' (stored_after (n + 1) size t.letter t.numbers b z') ts
 
       by : ((z' : State) → RunsAs (Claims.steps_in (fitting size) N P z' ts) (after z')) → (o : Outcome)
-          → RunsAs (elim o as (λ x. Outcome) [ refused k ↦ refused k | next z' ↦ cond (fitting size z') (Claims.steps_in (fitting size) N P z' ts) (refused 34) ])
-          (elim o [ refused k ↦ stopped k (n + 1) | next z' ↦ cond (fitting size z') (after z') (stopped 34 (n + 1)) ])
+          → RunsAs (elim o as (λ x. Outcome) [ refused k ↦ refused k | next z' ↦ cond (fitting size z') (Claims.steps_in (fitting size) N P z' ts) (refused Fault.StoreFull) ])
+          (elim o [ refused k ↦ stopped k (n + 1) | next z' ↦ cond (fitting size z') (after z') (stopped Fault.StoreFull (n + 1)) ])
       by below (refused k) = (n + 1, refl)
       by below (next z') = fits (fitting size z')
         where
-          fits : (f : Bool) → RunsAs (cond f (Claims.steps_in (fitting size) N P z' ts) (refused 34)) (cond f (after z') (stopped 34 (n + 1)))
+          fits : (f : Bool) → RunsAs (cond f (Claims.steps_in (fitting size) N P z' ts) (refused Fault.StoreFull)) (cond f (after z') (stopped Fault.StoreFull (n + 1)))
           fits true = below z'
           fits false = (n + 1, refl)
 
@@ -126,9 +127,9 @@ merged-ends size ws v first second halves fit h = (
         (runs_as (atoms ws) (expand ws) size 0 start [] ts))
 
     by : InOr34 (fitting size) (atoms ws) (expand ws) ts
-        → ((¬ (PastStore size ws ts)) × (is_accepted size ws (text_of ts) ≡ true)) ⊎ (PastStore size ws ts × ((n : ℕ) × (checked ≡ stopped 34 n)))
+        → ((¬ (PastStore size ws ts)) × (is_accepted size ws (text_of ts) ≡ true)) ⊎ (PastStore size ws ts × ((n : ℕ) × (checked ≡ stopped Fault.StoreFull n)))
     by (inl (z, e, l)) = inl (never-past size ws ts z e, ap ends_empty (ran (next z) e).2 ∙ l)
-    by (inr e) = inr (goes-past size ws ts good.0 good.1 e, ran (refused 34) e)
+    by (inr e) = inr (goes-past size ws ts good.0 good.1 e, ran (refused Fault.StoreFull) e)
 
 pub merged-text : MergedText
 unfolding check_within
@@ -137,9 +138,9 @@ merged-text text t s ws q v first second halves fit h =
     (first-half s ws v first second halves fit) (second-half s ws v first second halves fit) fit in
     (rw q (by (course (atoms ws) (expand ws) s (text_of (merged_steps ws v first second))) (merged-ends s ws v first second halves fit h).1.1), m.1)
   where
-    by : {A B : Type 0} (c : Course) → (A × (ends_empty c ≡ true)) ⊎ (B × ((n : ℕ) × (c ≡ stopped 34 n)))
+    by : {A B : Type 0} (c : Course) → (A × (ends_empty c ≡ true)) ⊎ (B × ((n : ℕ) × (c ≡ stopped Fault.StoreFull n)))
         → ((k : Counts) × ((judged t s ws c).verdict ≡ Inconsistent k))
-        ⊎ ((n : ℕ) × ((judged t s ws c).verdict ≡ RefusedProof (record { number = 34; step = n })))
+        ⊎ ((n : ℕ) × ((judged t s ws c).verdict ≡ RefusedProof (record { fault = Fault.StoreFull; step = n })))
     by (stopped k m) (inl (x, e)) = absurd (true≢false (sym e))
     by (through n z stored) (inl (x, e)) = inl (counts_of (atoms ws) (length ws) n z, rw e refl)
     by c (inr (x, (n, e))) = inr (n, rw e refl)
@@ -157,9 +158,9 @@ pub record Judged (t s o : ℕ) (v : ℕ) (first second : List ℕ) (r : Reading
 
 -- neither of these three
 abbrev Passes : MergeAnswer → Type 0
-Passes (Merged n) = Unit {0}
-Passes (RefusedProgram x) = ⊥
-Passes (Refused k) = k ≡ 59
+Passes (Ok n) = Unit {0}
+Passes (Err (Program x)) = ⊥
+Passes (Err (Service k)) = k ≡ StoreFull
 
 judged-answer : (t s o : ℕ) (v : ℕ) (first second : List ℕ) (r : Reading) → Passes (merged_reading t s o v first second r).answer → Judged t s o v first second r
 judged-answer t s o v first second (Reading.refused k n) p = absurd p
@@ -169,10 +170,10 @@ judged-answer t s o v first second (program ws) p = by (are_halves s ws v first 
     judgement = judged_text t s o ws (text_of (merged_steps ws v first second)) (course (atoms ws) (expand ws) s (text_of (merged_steps ws v first second)))
 
     by : (a : Bool) → are_halves s ws v first second ≡ a → (b : Bool) → is_writable o (merged_steps ws v first second) ≡ b
-        → Passes (cond a (cond b judgement (leaves_nothing t s o (Refused 58))) (leaves_nothing t s o (Refused 57))).answer → Judged t s o v first second (program ws)
+        → Passes (cond a (cond b judgement (leaves_nothing t s o (Err (Service NotWritable)))) (leaves_nothing t s o (Err (Service NotAccepted)))).answer → Judged t s o v first second (program ws)
     by true e true f p = record { rules = ws; read = refl; halves = e; writable = f; left = rw (e, f) refl }
-    by true e false f p = absurd (omega (arith, p))
-    by false e b f p = absurd (omega (arith, p))
+    by true e false f p = let q : NotWritable ≡ StoreFull = p in absurd (zero_one (cc))
+    by false e b f p = let q : NotAccepted ≡ StoreFull = p in absurd (zero_one (cc))
 
 pub demand3-merged : Demand3Merged
 unfolding merge
@@ -183,20 +184,20 @@ demand3-merged text v first second table store table' store' output output' r e 
     let short = if-true (leb-decides _ longest) (and_left (leb (length (text_of (merged_steps J.rules v first second))) longest) _ (and_right (all_fit (merged_steps J.rules v first second)) _ w)) in
     (J.rules, J.read, (merged-text text (length table) (length store) J.rules J.read v first second J.halves fit short).1)
   where
-    passes : (r : MergeAnswer) → ((n : ℕ) × (r ≡ Merged n)) ⊎ (r ≡ Refused 59) → {x : MergeAnswer} → r ≡ x → Passes x
+    passes : (r : MergeAnswer) → ((n : ℕ) × (r ≡ Ok n)) ⊎ (r ≡ Err (Service StoreFull)) → {x : MergeAnswer} → r ≡ x → Passes x
     passes r (inl q) p = subst Passes (sym q.1 ∙ p) tt
     passes r (inr q) p = subst Passes (sym q ∙ p) refl
 
 -- a text that was judged and written is found inconsistent by the check, which leaves the same table and store
 module _ (text : List ℕ) (t s o n : ℕ) (table' store' : List ℤ) (output' : List ℕ) where
   abbrev left : MergeLeft
-  left = record { answer = Merged n; table = table'; store = store'; output = output' }
+  left = record { answer = Ok n; table = table'; store = store'; output = output' }
 
   abbrev Goal : Type 0
   Goal = (c : Counts) × (check text (take n output') t s ≡ record { verdict = Inconsistent c; table = table'; store = store' })
 
-  full : left ≡ leaves_nothing t s o (Refused 59) → ⊥
-  full q = let i : ◌≡◌ {A = MergeAnswer} (Merged n) (Refused 59) = ap (λ (x : MergeLeft). x.answer) q in zero_one (cc)
+  full : left ≡ leaves_nothing t s o (Err (Service StoreFull)) → ⊥
+  full q = let i : ◌≡◌ {A = MergeAnswer} (Ok n) (Err (Service StoreFull)) = ap (λ (x : MergeLeft). x.answer) q in zero_one (cc)
 
   pub judged-checked : (ws : List InputRule) → read_text t text ≡ program ws → (p : List ℕ) (c : Course) → course (atoms ws) (expand ws) s p ≡ c
       → left ≡ judged_text t s o ws p c → Goal
@@ -205,12 +206,12 @@ module _ (text : List ℕ) (t s o n : ℕ) (table' store' : List ℤ) (output' :
   judged-checked ws q p (through m z b) r f = ends (empty_live z) refl f
     where
       done : MergeLeft
-      done = record { answer = Merged (length p); table = table_words t ws; store = store_words s b; output = p ++ replicate (o - length p) 0 }
+      done = record { answer = Ok (length p); table = table_words t ws; store = store_words s b; output = p ++ replicate (o - length p) 0 }
 
-      ends : (l : Bool) → empty_live z ≡ l → left ≡ cond l done (leaves_nothing t s o (Refused 59)) → Goal
+      ends : (l : Bool) → empty_live z ≡ l → left ≡ cond l done (leaves_nothing t s o (Err (Service StoreFull))) → Goal
       ends false g f = absurd (full f)
       ends true g f =
-          let j : ◌≡◌ {A = MergeAnswer} (Merged n) (Merged (length p)) = ap (λ (x : MergeLeft). x.answer) f in
+          let j : ◌≡◌ {A = MergeAnswer} (Ok n) (Ok (length p)) = ap (λ (x : MergeLeft). x.answer) f in
           let i : n ≡ length p = cc in
           let a : table' ≡ table_words t ws = ap (λ (x : MergeLeft). x.table) f in
           let d : store' ≡ store_words s b = ap (λ (x : MergeLeft). x.store) f in

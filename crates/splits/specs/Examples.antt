@@ -1,13 +1,14 @@
 -- What the service answers on worked cases, by its definition; proofs/Examples.antt computes them, and takes `past` and `within` from
 -- `MergedExactly`. The texts are those of merging/specs/Examples.antt.
 -- Assumes nothing.
-use Rattle.std.specs.Prelude.{◌≡◌, List, [], ◌∷◌, ◌++◌, ℕ, ℤ, pos, neg_ℤ, replicate}
+use Rattle.std.specs.Prelude.{◌≡◌, List, [], ◌∷◌, ◌++◌, ℕ, ℤ, pos, neg_ℤ, replicate, Ok, Err}
 use Rattle.text.specs.Strings.{lines}
 use Rattle.merging.specs.Examples.{rules, program_a, later_first_a, later_a, second_a}
-use Rattle.splits.specs.declared.MergeAnswer.{MergeAnswer}
-use Rattle.splits.specs.declared.MergeAnswer.TheVariants.{Merged, RefusedProgram, Refused}
-use Rattle.splits.specs.Service.{merged_steps, merge}
+use Rattle.splits.specs.Service.{merged_steps, merge, MergeAnswer}
 use Rattle.splits.specs.Claims.{PastStore}
+use Rattle.splits.specs.declared.MergeFault.TheVariants.{NotAccepted, NotWritable, StoreFull}
+use Rattle.aspif.specs.declared.Refusal.TheVariants.{Program, Service}
+use Rattle.aspif.specs.declared.ProgramFault.TheVariants.{TableFull}
 
 -- program A, its two halves and their merge, as texts
 abbrev pub text_a : List ℕ
@@ -37,25 +38,25 @@ table_a =
 
 pub record Worked : Type 0 where
   -- the table and the output as they are left, with 0 after what they hold
-  pub good : answer_a 30 124 167 1 ≡ Merged 167
+  pub good : answer_a 30 124 167 1 ≡ Ok 167
   pub table : (merge 32 124 170 text_a 1 half_a other_a).table ≡ table_a ++ (pos 0 ∷ pos 0 ∷ [])
   pub output : (merge 32 124 170 text_a 1 half_a other_a).output ≡ whole_a ++ (0 ∷ 0 ∷ 0 ∷ [])
-  pub short-table : answer_a 29 124 167 1 ≡ RefusedProgram (record { number = 10; line = 6 })
+  pub short-table : answer_a 29 124 167 1 ≡ Err (Program (record { fault = TableFull; line = 6 }))
   -- "live words past the store 59"; the second half needs 84
-  pub short-store : answer_a 30 123 167 1 ≡ Refused 59
+  pub short-store : answer_a 30 123 167 1 ≡ Err (Service StoreFull)
   pub past : PastStore 123 (rules program_a) (merged_steps (rules program_a) 1 half_a other_a)
   pub within : ¬ (PastStore 124 (rules program_a) (merged_steps (rules program_a) 1 half_a other_a))
-  pub half-store : answer_a 30 84 167 1 ≡ Refused 59
-  pub no_store : answer_a 30 83 167 1 ≡ Refused 57
+  pub half-store : answer_a 30 84 167 1 ≡ Err (Service StoreFull)
+  pub no_store : answer_a 30 83 167 1 ≡ Err (Service NotAccepted)
   -- 58 before 59
-  pub short-output : answer_a 30 124 166 1 ≡ Refused 58
-  pub both-short : answer_a 30 123 166 1 ≡ Refused 58
+  pub short-output : answer_a 30 124 166 1 ≡ Err (Service NotWritable)
+  pub both-short : answer_a 30 123 166 1 ≡ Err (Service NotWritable)
   -- "a foreign atom"
-  pub no-atom : answer_a 30 124 167 0 ≡ Refused 57
-  pub foreign-atom : answer_a 30 124 167 3 ≡ Refused 57
-  pub other-atom : answer_a 30 124 167 2 ≡ Refused 57
-  pub exchanged : (merge 30 124 167 text_a 1 other_a half_a).answer ≡ Refused 57
-  pub open-half : (merge 30 124 167 text_a 1 half_a (other_a ++ lines ("d 0" ∷ []))).answer ≡ Refused 57
+  pub no-atom : answer_a 30 124 167 0 ≡ Err (Service NotAccepted)
+  pub foreign-atom : answer_a 30 124 167 3 ≡ Err (Service NotAccepted)
+  pub other-atom : answer_a 30 124 167 2 ≡ Err (Service NotAccepted)
+  pub exchanged : (merge 30 124 167 text_a 1 other_a half_a).answer ≡ Err (Service NotAccepted)
+  pub open-half : (merge 30 124 167 text_a 1 half_a (other_a ++ lines ("d 0" ∷ []))).answer ≡ Err (Service NotAccepted)
   -- nothing stays of what is refused
   pub nothing : merge 30 123 4 text_a 1 half_a other_a
-      ≡ record { answer = Refused 58; table = replicate 30 (pos 0); store = replicate 123 (pos 0); output = 0 ∷ 0 ∷ 0 ∷ 0 ∷ [] }
+      ≡ record { answer = Err (Service NotWritable); table = replicate 30 (pos 0); store = replicate 123 (pos 0); output = 0 ∷ 0 ∷ 0 ∷ 0 ∷ [] }

@@ -1,6 +1,6 @@
 -- What the private functions that join the lines of the halves to one text leave. No reader of a public contract needs it.
 -- Assumes nothing.
-use Rattle.std.specs.Prelude.{◌≡◌, ◌⊎◌, true, false, cond, List, [], ◌++◌, ℕ, ◌-◌, ltb, ℤ, length, replicate}
+use Rattle.std.specs.Prelude.{◌≡◌, ◌⊎◌, true, false, cond, List, [], ◌++◌, ℕ, ◌-◌, Option, Some, None, ltb, ℤ, length, replicate, Result, Ok, Err}
 use Rattle.text.specs.declared.Letter.TheVariants.{Addition}
 use Rattle.aspif.specs.Rules.{Rule, InputRule}
 use Rattle.drupe.specs.Texts.{Step, text_of}
@@ -8,13 +8,11 @@ use Rattle.derivation.specs.States.{is_atom}
 use Rattle.steps.specs.Held.{Program}
 use Rattle.merging.specs.Merge.{is_body, half, one}
 use Rattle.renaming.specs.Standing.{is_constraint, HalfOf}
-use Rattle.renaming.specs.declared.lines.Wrote.{Wrote}
-use Rattle.renaming.specs.declared.lines.Wrote.TheVariants.{At, Over}
 use Rattle.splits.specs.Service.{are_halves, merged_steps, is_writable}
 use Rattle.splits.specs.Halves.{HalvesLeft}
 use Rattle.splits.specs.declared.texts.Added.{Added}
-use Rattle.splits.specs.declared.texts.Written.{Written}
-use Rattle.splits.specs.declared.texts.Written.TheVariants.{Text, Refused}
+use Rattle.splits.specs.declared.MergeFault.TheVariants.{NotAccepted, NotWritable}
+use Rattle.splits.specs.declared.MergeFault.{MergeFault}
 
 -- what the program has of the constraint with the body L
 pub record AddedTo (P : List Rule) (L : List ℤ) (a : Added) : Type 0 where
@@ -23,19 +21,19 @@ pub record AddedTo (P : List Rule) (L : List ℤ) (a : Added) : Type 0 where
 
 -- 57 and 58 of the halves of ws with a store of so many words; where both pass, the output holds the merged text and 0 after it
 module _ (size : ℕ) (ws : List InputRule) (v : ℕ) (first second : List ℕ) where
-  abbrev pub WrittenBy : (output : List ℕ) → Written → Type 0
-  WrittenBy output (Text n) =
+  abbrev pub WrittenBy : (output : List ℕ) → Result ℕ MergeFault → Type 0
+  WrittenBy output (Ok n) =
       (are_halves size ws v first second ≡ true) × (is_writable (length output) (merged_steps ws v first second) ≡ true)
       × ((n ≡ length (text_of (merged_steps ws v first second)))
       × (output ≡ text_of (merged_steps ws v first second) ++ replicate (length output - n) 0))
-  WrittenBy output (Refused k) =
-      ((k ≡ 57) × (are_halves size ws v first second ≡ false))
-      ⊎ ((k ≡ 58) × (are_halves size ws v first second ≡ true) × (is_writable (length output) (merged_steps ws v first second) ≡ false))
+  WrittenBy output (Err k) =
+      ((k ≡ NotAccepted) × (are_halves size ws v first second ≡ false))
+      ⊎ ((k ≡ NotWritable) × (are_halves size ws v first second ≡ true) × (is_writable (length output) (merged_steps ws v first second) ≡ false))
 
 -- the answer by what was written into an output of so many bytes
-abbrev pub written_in : (size : ℕ) → Wrote → Written
-written_in size (At end) = cond (ltb size end) (Refused 58) (Text end)
-written_in size Over = Refused 58
+abbrev pub written_in : (size : ℕ) → Option ℕ → Result ℕ MergeFault
+written_in size (Some end) = cond (ltb size end) (Err NotWritable) (Ok end)
+written_in size None = Err NotWritable
 
 -- a half's text, with what is told of its constraint: of some program, some bodies that the other half names, and some steps
 pub record HalfText (text : List ℕ) (x : ℤ) (shared : List ℕ) (a : Added) : Type 0 where

@@ -1,6 +1,6 @@
 -- What `merge_halves` answers and leaves, of the texts, the atom and the lengths of what it is lent: document 02, Change 9.
 -- Assumes nothing.
-use Rattle.std.specs.Prelude.{◌≡◌, Bool, cond, ◌&&◌, List, ◌++◌, ℕ, ◌-◌, leb, ℤ, pos, neg_ℤ, length, replicate}
+use Rattle.std.specs.Prelude.{◌≡◌, Bool, cond, ◌&&◌, List, ◌++◌, ℕ, ◌-◌, leb, ℤ, pos, neg_ℤ, length, replicate, Result, Ok, Err}
 use Rattle.words.specs.Limits.{longest}
 use Rattle.aspif.specs.Rules.{InputRule, expand, atoms, table_words}
 use Rattle.aspif.specs.Reading.{Reading, refused, program, read_text}
@@ -12,8 +12,10 @@ use Rattle.nogoods.specs.Store.{store_words}
 use Rattle.runs.specs.Course.{Course, stopped, through, course, is_accepted}
 use Rattle.merging.specs.Merge.{all_fit}
 use Rattle.merging.specs.Claims.{demanding_as_written, merged_as_written}
-use Rattle.splits.specs.declared.MergeAnswer.{MergeAnswer}
-use Rattle.splits.specs.declared.MergeAnswer.TheVariants.{Merged, RefusedProgram, Refused}
+use Rattle.aspif.specs.declared.Refusal.{Refusal}
+use Rattle.aspif.specs.declared.Refusal.TheVariants.{Program, Service}
+use Rattle.splits.specs.declared.MergeFault.{MergeFault}
+use Rattle.splits.specs.declared.MergeFault.TheVariants.{NotAccepted, NotWritable, StoreFull}
 
 -- "A half that its check, with the lent store, refuses or finds open" is none, and "Questions 1, 9 and 10 are not put to added
 -- constraints": is_accepted
@@ -36,6 +38,11 @@ merged_steps ws v first second = merged_as_written ws v (steps_in first) (steps_
 abbrev pub is_writable : (size : ℕ) → List Step → Bool
 is_writable size ts = all_fit ts && (leb (length (text_of ts)) longest && leb (length (text_of ts)) size)
 
+-- the length of the text written; or what is wrong with the program and the line, or the question of the merge's own
+-- that is failed
+abbrev pub MergeAnswer : Type 0
+MergeAnswer = Result ℕ (Refusal MergeFault)
+
 -- the answer with every word of the table and the store and every byte of the output
 pub record MergeLeft : Type 0 where
   pub answer : MergeAnswer
@@ -51,26 +58,26 @@ module _ (t s o : ℕ) where
 
   -- "live words past the store 59"; "the table holds the program alone, and the store is as the check of the proof written .. leaves it"
   abbrev pub judged_text : List InputRule → (text : List ℕ) → Course → MergeLeft
-  judged_text ws text (stopped k n) = leaves_nothing (Refused 59)
+  judged_text ws text (stopped k n) = leaves_nothing (Err (Service StoreFull))
   judged_text ws text (through n z stored) =
       cond (empty_live z)
       (record {
-        answer = Merged (length text);
+        answer = Ok (length text);
         table = table_words t ws;
         store = store_words s stored;
         output = text ++ replicate (o - length text) 0;
       })
-      (leaves_nothing (Refused 59))
+      (leaves_nothing (Err (Service StoreFull)))
 
   -- "judged in this order after the program's own questions": 57, 58, 59
   abbrev pub merged_reading : (atom : ℕ) → (first second : List ℕ) → Reading → MergeLeft
-  merged_reading v first second (refused k n) = leaves_nothing (RefusedProgram (record { number = k; line = n }))
+  merged_reading v first second (refused k n) = leaves_nothing (Err (Program (record { fault = k; line = n })))
   merged_reading v first second (program ws) =
       let text = text_of (merged_steps ws v first second) in
       cond (are_halves s ws v first second)
       (cond (is_writable o (merged_steps ws v first second)) (judged_text ws text (course (atoms ws) (expand ws) s text))
-      (leaves_nothing (Refused 58)))
-      (leaves_nothing (Refused 57))
+      (leaves_nothing (Err (Service NotWritable))))
+      (leaves_nothing (Err (Service NotAccepted)))
 
   unfoldable pub merge : (text : List ℕ) → (atom : ℕ) → (first second : List ℕ) → MergeLeft
   merge text v first second = merged_reading v first second (read_text t text)

@@ -23,33 +23,9 @@ fn know_atoms(known: &mut [u8], atoms: usize)
     requires { (length known.old ≡ entries) × (atoms ≤ largest) }
     ensures { Marks known.new (up_to atoms) }
 {
-    words::zero_bytes(known);
-    let mut left = atoms;
-    while 0 < left {
-        marks::mark(known, left);
-        left -= 1;
-    }
-}
-
-// No body has a name.
-fn zero_names(names: &mut [u16])
-    ensures { names.new ≡ replicate (length names.old) 0 }
-{
-    let mut at = 0;
-    while at < names.len() {
-        names[at] = 0;
-        at += 1;
-    }
-}
-
-// No name has a body.
-fn zero_bodies(bodies: &mut [i16])
-    ensures { bodies.new ≡ replicate (length bodies.old) (pos 0) }
-{
-    let mut at = 0;
-    while at < bodies.len() {
-        bodies[at] = 0;
-        at += 1;
+    words::zero_all(known);
+    for left in (0..atoms).rev() {
+        marks::mark(known, left + 1);
     }
 }
 
@@ -146,8 +122,8 @@ pub fn accept_halves(
     ) {
         return false;
     }
-    zero_names(names);
-    zero_bodies(bodies);
+    names.fill(0);
+    bodies.fill(0);
     accepts_with(
         words::complement_of(atom),
         first,

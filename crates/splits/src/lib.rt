@@ -6,7 +6,7 @@ pub mod halves;
 mod tables;
 pub mod texts;
 
-ghost use Rattle.std.specs.Prelude.{◌≡◌, List, ◌++◌, ℕ, ◌+◌, ◌-◌, ◌≤◌, ◌<◌, pos, length, replicate};
+ghost use Rattle.std.specs.Prelude.{◌≡◌, List, ◌++◌, ℕ, ◌+◌, ◌-◌, ◌≤◌, ◌<◌, pos, length, replicate, Err};
 ghost use Rattle.words.specs.Limits.{longest, most_rules, most_held};
 ghost use Rattle.aspif.specs.Rules.{InputRule, program_words, table_words};
 ghost use Rattle.aspif.specs.Reading.{program};
@@ -16,29 +16,50 @@ ghost use Rattle.splits.specs.Service.{leaves_nothing, merged_reading, MergedHal
 ghost use Rattle.splits.specs.Halves.{most_words};
 ghost use Rattle.splits.specs.Joined.{WrittenBy};
 ghost use Rattle.splits.specs.Judging.{judged_as};
-ghost use Rattle.splits.specs.declared.MergeAnswer.TheVariants.{Refused};
+ghost use Rattle.aspif.specs.declared.Refusal.TheVariants.{Service};
 
-use crate::texts::Written;
-use aspif::{ProgramReading, ProgramRefusal};
+use aspif::{ProgramCounts, Refusal};
 use checker::judging;
 
-// The length of the text written; the question that the program fails, with its line; or 57, 58 or 59, and 64 of a tree.
-#[derive(Drop)]
-pub enum MergeAnswer {
-    Merged(usize),
-    RefusedProgram(ProgramRefusal),
-    Refused(u8),
+// What is wrong with what is to be merged, by the first question that it fails; the last is asked of a tree alone.
+// `u8::from` gives the question's number.
+#[derive(Clone, Copy, PartialEq, Eq)]
+pub enum MergeFault {
+    NotAccepted,
+    NotWritable,
+    StoreFull,
+    NoTree,
+}
+
+impl From<MergeFault> for u8 {
+    ghost use Rattle.splits.specs.Numbers.{number_of};
+
+    ghost from_gives = { λ fault number. number ≡ number_of fault };
+
+    fn from(fault: MergeFault) -> u8 {
+        match fault {
+            MergeFault::NotAccepted => 57,
+            MergeFault::NotWritable => 58,
+            MergeFault::StoreFull => 59,
+            MergeFault::NoTree => 64,
+        }
+    }
 }
 
 // Nothing stays of what is refused.
-pub fn refuse(table: &mut [i32], store: &mut [i32], output: &mut [u8], number: u8) -> MergeAnswer
+pub fn refuse(
+    table: &mut [i32],
+    store: &mut [i32],
+    output: &mut [u8],
+    fault: MergeFault,
+) -> Result<usize, Refusal<MergeFault>>
     ensures { record { answer = result; table = table.new; store = store.new; output = output.new }
-        ≡ leaves_nothing (length table.old) (length store.old) (length output.old) (Refused number) }
+        ≡ leaves_nothing (length table.old) (length store.old) (length output.old) (Err (Service fault)) }
 {
     words::zero_all(table);
     words::zero_all(store);
-    words::zero_bytes(output);
-    MergeAnswer::Refused(number)
+    words::zero_all(output);
+    Err(Refusal::Service(fault))
 }
 
 // 59: the check of the merged text, which is the output's first n bytes.
@@ -49,7 +70,7 @@ fn judge(
     store: &mut [i32],
     output: &mut [u8],
     n: usize,
-) -> MergeAnswer
+) -> Result<usize, Refusal<MergeFault>>
     requires program { ((ws : List InputRule) × Program table.old rules atoms ws) × (rules ≤ most_rules) }
     requires empty { store.old ≡ replicate (length store.old) (pos 0) }
     requires text { n ≤ length output.old }
@@ -61,9 +82,9 @@ fn judge(
 {
     let verdict = judging::check_proof(&output[..n], table, atoms, rules, store);
     if judging::is_inconsistent(verdict) {
-        return MergeAnswer::Merged(n);
+        return Ok(n);
     }
-    refuse(table, store, output, 59)
+    refuse(table, store, output, MergeFault::StoreFull)
 }
 
 // 57 and 58, for a program without weight bodies or with some.
@@ -76,7 +97,7 @@ pub fn write(
     v: usize,
     store: &mut [i32],
     output: &mut [u8],
-) -> Written
+) -> Result<usize, MergeFault>
     requires program { ((ws : List InputRule) × Program table.now rules atoms ws) × (rules < most_held) }
     requires short { length (program_words (rules_at rules table.now)) + 5 ≤ most_words }
     requires empty { (store.old ≡ replicate (length store.old) (pos 0)) × (output.old ≡ replicate (length output.old) 0) }
@@ -100,7 +121,7 @@ fn merge_read(
     v: usize,
     store: &mut [i32],
     output: &mut [u8],
-) -> MergeAnswer
+) -> Result<usize, Refusal<MergeFault>>
     requires program { ((ws : List InputRule) × Program table.old rules atoms ws) × (rules ≤ most_rules) }
     requires short { length (program_words (rules_at rules table.old)) ≤ longest }
     requires empty { (store.old ≡ replicate (length store.old) (pos 0)) × (output.old ≡ replicate (length output.old) 0) }
@@ -112,8 +133,8 @@ fn merge_read(
 {
     let written = write(first, second, table, rules, atoms, v, store, output);
     match written {
-        Written::Refused(number) => refuse(table, store, output, number),
-        Written::Text(n) => judge(table, rules, atoms, store, output, n),
+        Err(fault) => refuse(table, store, output, fault),
+        Ok(n) => judge(table, rules, atoms, store, output, n),
     }
 }
 
@@ -128,17 +149,12 @@ pub fn merge_halves(
     table: &mut [i32],
     store: &mut [i32],
     output: &mut [u8],
-) -> MergeAnswer
+) -> Result<usize, Refusal<MergeFault>>
     ensures { MergedHalves program.now atom first.now second.now table.old store.old
         table.new store.new output.old output.new result }
 {
     words::zero_all(store);
-    words::zero_bytes(output);
-    let read = aspif::read_program(program, table);
-    match read {
-        ProgramReading::Refused(refusal) => MergeAnswer::RefusedProgram(refusal),
-        ProgramReading::Read { atoms, rules } => merge_read(
-            first, second, table, rules, atoms, atom, store, output,
-        ),
-    }
+    words::zero_all(output);
+    let ProgramCounts { atoms, rules } = aspif::read_program(program, table)?;
+    merge_read(first, second, table, rules, atoms, atom, store, output)
 }

@@ -12,10 +12,9 @@ ghost use Rattle.splits.specs.Service.{merged_steps};
 ghost use Rattle.splits.specs.Halves.{most_words};
 ghost use Rattle.splits.specs.Joined.{AddedTo, WrittenBy, written_in, HalfText, lines_of, closing, HalvesHeld};
 
-use crate::halves;
+use crate::{MergeFault, halves};
 use heads::{INDEX_WORDS, NAME_WORDS};
 use names::{by_name, queries};
-use renaming::lines::Wrote;
 use renaming::{lines, renames};
 use text::Letter;
 use words::ENTRIES;
@@ -25,13 +24,6 @@ use words::ENTRIES;
 pub struct Added {
     pub body: bool,
     pub constraint: bool,
-}
-
-// The bytes of the merged text, which stand in the output; or 57 or 58.
-#[derive(Drop)]
-pub enum Written {
-    Text(usize),
-    Refused(u8),
 }
 
 // What the program has of the constraint with just the literal in its body.
@@ -57,7 +49,8 @@ fn added_of(
     }
 }
 
-// The second half's lines and `a 0`, from a position on.
+// The second half's lines and `a 0`, from a position on: the position after them; none where a line or the text is over
+// its limit. So too below.
 fn write_second(
     second: &[u8],
     x: i32,
@@ -66,7 +59,7 @@ fn write_second(
     added: Added,
     output: &mut [u8],
     at: usize,
-) -> Wrote
+) -> Option<usize>
     requires at { at ≤ longest }
     requires literal { (1 ≤ variable x) × (variable x ≤ largest) }
     requires new { (u : ℕ) → get_or new.now u 0 ≤ largest }
@@ -74,7 +67,7 @@ fn write_second(
     ensures { (h : HalfText second.now x shared.now added)
         → Writes (lines_of h (λ u. get_or new.now u 0) ++ closing) output.old output.new at result }
 {
-    let wrote = lines::write_half(
+    let end = lines::write_half(
         second,
         x,
         new,
@@ -83,12 +76,9 @@ fn write_second(
         added.constraint,
         output,
         at,
-    );
+    )?;
     let none = [0i32; 1];
-    match wrote {
-        Wrote::At(end) => lines::write_line(Letter::Addition, &none[..0], output, end),
-        Wrote::Over => Wrote::Over,
-    }
+    lines::write_line(Letter::Addition, &none[..0], output, end)
 }
 
 // All lines of the merged text. The first half keeps its names.
@@ -101,7 +91,7 @@ fn write_text(
     demanded: Added,
     forbidden: Added,
     output: &mut [u8],
-) -> Wrote
+) -> Option<usize>
     requires literal { (1 ≤ variable x) × (variable x ≤ largest) }
     requires new { (u : ℕ) → get_or new.now u 0 ≤ largest }
     requires first { HalfText first.now x (0 ∷ []) demanded }
@@ -113,7 +103,7 @@ fn write_text(
     let mut same = [0u16; ENTRIES];
     renames::keep_all(&mut same);
     let none = [0u8; 1];
-    let wrote = lines::write_half(
+    let end = lines::write_half(
         first,
         x,
         &same,
@@ -122,19 +112,16 @@ fn write_text(
         demanded.constraint,
         output,
         0,
-    );
-    match wrote {
-        Wrote::At(end) => write_second(
-            second,
-            words::complement_of(x),
-            new,
-            shared,
-            forbidden,
-            output,
-            end,
-        ),
-        Wrote::Over => Wrote::Over,
-    }
+    )?;
+    write_second(
+        second,
+        words::complement_of(x),
+        new,
+        shared,
+        forbidden,
+        output,
+        end,
+    )
 }
 
 // The merged text of two halves that are accepted.
@@ -151,7 +138,7 @@ fn write_merged(
     names: &[u16],
     bodies: &[i16],
     output: &mut [u8],
-) -> Wrote
+) -> Option<usize>
     requires halves { HalvesHeld table.now rules atoms v first.now second.now known1.now known2.now names.now bodies.now }
     requires index { Indexed lookup.now table.now rules }
     ensures { (h : HalvesHeld table.now rules atoms v first.now second.now
@@ -173,7 +160,7 @@ fn write_merged(
         &mut new,
         &mut shared,
     ) {
-        return Wrote::Over;
+        return None;
     }
     let x = v as i32;
     let demanded = added_of(table, rules, lookup, names, bodies, words::complement_of(x));
@@ -182,21 +169,17 @@ fn write_merged(
 }
 
 // A text that the output holds.
-fn within(wrote: Wrote, size: usize) -> Written
+fn within(wrote: Option<usize>, size: usize) -> Result<usize, MergeFault>
     ensures { result ≡ written_in size wrote }
 {
     match wrote {
-        Wrote::At(end) => {
-            if size < end {
-                return Written::Refused(58);
-            }
-            Written::Text(end)
-        }
-        Wrote::Over => Written::Refused(58),
+        Some(end) if end <= size => Ok(end),
+        _ => Err(MergeFault::NotWritable),
     }
 }
 
-// 57 and 58: the halves are accepted, and the merged text is written.
+// 57 and 58: the halves are accepted, and the merged text is written. The answer is how many bytes it has, which stand
+// in the output.
 fn write_halves(
     first: &[u8],
     second: &[u8],
@@ -208,7 +191,7 @@ fn write_halves(
     bodies: &mut [i16],
     store: &mut [i32],
     output: &mut [u8],
-) -> Written
+) -> Result<usize, MergeFault>
     requires program { ((ws : List InputRule) × Program table.now rules atoms ws) × (rules < most_held) }
     requires short { length (program_words (rules_at rules table.now)) + 5 ≤ most_words }
     requires index { Indexed lookup.now table.now rules }
@@ -234,7 +217,7 @@ fn write_halves(
         bodies,
         store,
     ) {
-        return Written::Refused(57);
+        return Err(MergeFault::NotAccepted);
     }
     let wrote = write_merged(
         first, second, table, rules, lookup, atoms, v, &known1, &known2, &names, bodies, output,
@@ -252,7 +235,7 @@ pub fn write_plain(
     v: usize,
     store: &mut [i32],
     output: &mut [u8],
-) -> Written
+) -> Result<usize, MergeFault>
     requires program { ((ws : List InputRule) × Program table.now rules atoms ws) × (rules < most_held) }
     requires short { length (program_words (rules_at rules table.now)) + 5 ≤ most_words }
     requires plain { all_plain (rules_at rules table.now) ≡ true }
@@ -279,7 +262,7 @@ pub fn write_weighted(
     v: usize,
     store: &mut [i32],
     output: &mut [u8],
-) -> Written
+) -> Result<usize, MergeFault>
     requires program { ((ws : List InputRule) × Program table.now rules atoms ws) × (rules < most_held) }
     requires short { length (program_words (rules_at rules table.now)) + 5 ≤ most_words }
     requires empty { (store.old ≡ replicate (length store.old) (pos 0)) × (output.old ≡ replicate (length output.old) 0) }

@@ -4,6 +4,7 @@ use mathlib.Core.List.{List, [], ◌∷◌}
 use Prim.Native.Nat.{ℕ}
 use lib.IntN.{pos, negsuc}
 use lib.ListN.{length}
+use Rattle.std.specs.Prelude.{Result, Ok}
 use Rattle.words.specs.Limits.{entries}
 use Rattle.words.specs.Literals.{insert, insert_all}
 use Rattle.text.specs.Decimals.{decimals, decimal}
@@ -18,6 +19,7 @@ use Rattle.answer_set.specs.SetTest.{give_head, give_rule, least, SetVerdict, ye
 use Rattle.answer_set.specs.Claims.{Ready}
 use Rattle.answer_set.specs.declared.SetAnswer.{SetAnswer}
 use Rattle.answer_set.specs.declared.SetAnswer.TheVariants.{Yes}
+use Rattle.answer_set.specs.declared.SetFault.{SetFault}
 use Rattle.answer_set.proofs.Answered.{no-differs, no-breaks, yes-answer-set}
 use Rattle.answer_set.proofs.Broken.{breaks-lowest}
 use Rattle.drupe.specs.Texts.{steps_at, steps_within}
@@ -41,11 +43,11 @@ rules8 = record { kind = Normal; heads = pos 1 ∷ []; body = plain (negsuc 0 �
 
 -- by what the set test computes: `yes-answer-set` says what its yes means
 passes : (text l : List ℕ) (P : List InputRule) → read_text lent text ≡ program P → Ready (program_words P) (length P) l P → verdict_of (listed l) P ≡ yes
-    → set_answer l (asked (program_words P) (length P) l entries) ≡ Yes → SetPasses text l
+    → set_answer l (asked (program_words P) (length P) l entries) ≡ Ok Yes → SetPasses text l
 passes text l P e ready v a = record { P = P; read = e; answer = a; answer_set = (yes-answer-set (program_words P) (length P) l P ready).0 v }
 
 -- the set test's own verdict is not yes
-fails : (text l : List ℕ) (P : List InputRule) (r : SetAnswer) → read_text lent text ≡ program P → Ready (program_words P) (length P) l P
+fails : (text l : List ℕ) (P : List InputRule) (r : Result SetAnswer SetFault) → read_text lent text ≡ program P → Ready (program_words P) (length P) l P
     → {v : SetVerdict} → verdict_of (listed l) P ≡ v → ¬ (v ≡ yes) → set_answer l (asked (program_words P) (length P) l entries) ≡ r → SetFails text l r
 fails text l P r e ready d f a =
     record { P = P; read = e; answer = a; none = λ s. f (sym d ∙ (yes-answer-set (program_words P) (length P) l P ready).1 s) }

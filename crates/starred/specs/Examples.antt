@@ -1,7 +1,7 @@
 -- The starred examples 1 to 8 of document 01 and its 'Others', jointly in one statement over the definitions;
 -- proofs/Examples.antt proves it. Each field quotes its example.
 -- Assumes nothing.
-use Rattle.std.specs.Prelude.{◌≡◌, List, [], ◌∷◌, ◌++◌, ℕ, ◌-◌, ℤ, pos, neg_ℤ, length, replicate}
+use Rattle.std.specs.Prelude.{◌≡◌, List, [], ◌∷◌, ◌++◌, ℕ, ◌-◌, ℤ, pos, neg_ℤ, length, replicate, Result, Ok}
 use Prim.Native.String.{String}
 use Rattle.words.specs.Limits.{entries}
 use Rattle.aspif.specs.Rules.{InputRule, expand, program_words}
@@ -11,11 +11,16 @@ use Rattle.answer_set.specs.SetTest.{asked, set_answer}
 use Rattle.answer_set.specs.Claims.{Listed, LowestRule}
 use Rattle.answer_set.specs.declared.SetAnswer.{SetAnswer}
 use Rattle.answer_set.specs.declared.SetAnswer.TheVariants.{Yes, Differs, Broken}
+use Rattle.answer_set.specs.declared.SetFault.{SetFault}
 use Rattle.checker.specs.Check.{check}
 use Rattle.checker.specs.Report.{verdict_line, lent, printed}
 use Rattle.text.specs.Strings.{lines}
 use Rattle.checker.specs.declared.Verdict.{Verdict}
 use Rattle.checker.specs.declared.Verdict.TheVariants.{Inconsistent, Open, RefusedProgram, RefusedProof}
+use Rattle.aspif.specs.declared.ProgramFault.TheVariants.{Malformed, TooLarge, TableFull, WeightOutOfRange, TooManyWeights}
+use Rattle.aspif.specs.declared.ProgramFault.{ProgramFault}
+use Rattle.drupe.specs.declared.ProofFault.TheVariants.{KnownName, NoUnnamedBody, NoCompletion, NoSupport, NoConflict, StoreFull, NoLoop}
+use Rattle.drupe.specs.declared.ProofFault.{ProofFault}
 
 -- Texts
 
@@ -63,12 +68,12 @@ abbrev pub undecided : ℕ → ℕ → ℕ → ℕ → Verdict
 undecided n r s k = Open (record { atoms = n; rules = r; steps = s; nogoods = k })
 
 -- `refused program NUMBER LINE`
-abbrev pub refused_program : ℕ → ℕ → Verdict
-refused_program k n = RefusedProgram (record { number = k; line = n })
+abbrev pub refused_program : ProgramFault → ℕ → Verdict
+refused_program k n = RefusedProgram (record { fault = k; line = n })
 
 -- `refused proof NUMBER STEP`
-abbrev pub refused_proof : ℕ → ℕ → Verdict
-refused_proof k n = RefusedProof (record { number = k; step = n })
+abbrev pub refused_proof : ProofFault → ℕ → Verdict
+refused_proof k n = RefusedProof (record { fault = k; step = n })
 
 abbrev pub neg : ℕ → ℤ
 neg v = neg_ℤ (pos v)
@@ -95,10 +100,10 @@ store1 = store2 ++ (pos 5 ∷ pos 0 ∷ [])
 pub record SetPasses (text l : List ℕ) : Type 0 where
   pub P : List InputRule
   pub read : read_text lent text ≡ program P
-  pub answer : set_answer l (asked (program_words P) (length P) l entries) ≡ Yes
+  pub answer : set_answer l (asked (program_words P) (length P) l entries) ≡ Ok Yes
   pub answer_set : AnswerSet (Listed l) (expand P)
 
-pub record SetFails (text l : List ℕ) (r : SetAnswer) : Type 0 where
+pub record SetFails (text l : List ℕ) (r : Result SetAnswer SetFault) : Type 0 where
   pub P : List InputRule
   pub read : read_text lent text ≡ program P
   pub answer : set_answer l (asked (program_words P) (length P) l entries) ≡ r
@@ -111,37 +116,37 @@ pub record Starred : Type 0 where
       ≡ record { verdict = inconsistent 1 1 5 6; table = table1 ++ replicate 16378 (pos 0); store = store1 ++ replicate 16363 (pos 0) }
   pub one_fits : check program1 proof1 6 21 ≡ record { verdict = inconsistent 1 1 5 6; table = table1; store = store1 }
   pub one_short : check program1 proof1 6 20
-      ≡ record { verdict = refused_proof 34 5; table = replicate 6 (pos 0); store = replicate 20 (pos 0) }
+      ≡ record { verdict = refused_proof StoreFull 5; table = replicate 6 (pos 0); store = replicate 20 (pos 0) }
   -- 2: "example 1 with `d 0` added: `open 1 1 6 5`"
   pub two : verdict program1 (proof1 ++ lines ("d 0" ∷ [])) ≡ undecided 1 1 6 5
   pub two_prints : printed program1 (proof1 ++ lines ("d 0" ∷ [])) ≡ lines ("open 1 1 6 5" ∷ [])
   -- 3: "27, step 2"
-  pub three : verdict program1 proof3 ≡ refused_proof 27 2
+  pub three : verdict program1 proof3 ≡ refused_proof KnownName 2
   pub three_prints : printed program1 proof3 ≡ lines ("refused proof 27 2" ∷ [])
   -- 4: "no rules, empty proof: `open 0 0 0 0`; the empty set passes. Proof `a 0`: 33, step 1."
   pub four : verdict (rules []) [] ≡ undecided 0 0 0 0
   pub four_empty : SetPasses (rules []) []
-  pub four_adds : verdict (rules []) (lines ("a 0" ∷ [])) ≡ refused_proof 33 1
+  pub four_adds : verdict (rules []) (lines ("a 0" ∷ [])) ≡ refused_proof NoConflict 1
   -- 5: "`inconsistent 2 3 4 5`. Without the `l` line: 33, step 3."
   pub five : verdict program5 (lines ("b 3 -1 0" ∷ "c 3 0" ∷ "l 1 2 0" ∷ "a 0" ∷ [])) ≡ inconsistent 2 3 4 5
-  pub five_without : verdict program5 (lines ("b 3 -1 0" ∷ "c 3 0" ∷ "a 0" ∷ [])) ≡ refused_proof 33 3
+  pub five_without : verdict program5 (lines ("b 3 -1 0" ∷ "c 3 0" ∷ "a 0" ∷ [])) ≡ refused_proof NoConflict 3
   -- 6: "the empty set passes, {1, 2} does not"
   pub six_empty : SetPasses program6 []
-  pub six_one_two : SetFails program6 (1 ∷ 2 ∷ []) (Differs 1)
+  pub six_one_two : SetFails program6 (1 ∷ 2 ∷ []) (Ok (Differs 1))
   -- 7: "both {} and {1} pass; proof `b 2 0`, `c 2 1 0`: 29, step 2"
   pub seven_empty : SetPasses program7 []
   pub seven_one : SetPasses program7 (1 ∷ [])
-  pub seven : verdict program7 (lines ("b 2 0" ∷ "c 2 1 0" ∷ [])) ≡ refused_proof 29 2
+  pub seven : verdict program7 (lines ("b 2 0" ∷ "c 2 1 0" ∷ [])) ≡ refused_proof NoCompletion 2
   -- 8: "{1} passes"
   pub eight_one : SetPasses program8 (1 ∷ [])
   -- "literal `-0`: 3"
-  pub minus_zero : verdict (rules ("1 0 1 1 0 1 -0" ∷ [])) [] ≡ refused_program 3 2
+  pub minus_zero : verdict (rules ("1 0 1 1 0 1 -0" ∷ [])) [] ≡ refused_program Malformed 2
   pub minus_zero_prints : printed (rules ("1 0 1 1 0 1 -0" ∷ [])) [] ≡ lines ("refused program 3 2" ∷ [])
   -- "atom 4,095 good, 4,096: 4", and by Change 6 "the case at 4,095 take[s] the new figures"
   pub largest_atom : verdict (rules ("1 0 1 8191 0 0" ∷ [])) [] ≡ undecided 8191 1 0 0
-  pub too_large : verdict (rules ("1 0 1 8192 0 0" ∷ [])) [] ≡ refused_program 4 2
+  pub too_large : verdict (rules ("1 0 1 8192 0 0" ∷ [])) [] ≡ refused_program TooLarge 2
   -- "an `s` that leaves out one body: 30"
-  pub left_out : verdict (rules ("1 0 1 1 0 1 2" ∷ "1 0 1 1 0 1 -2" ∷ [])) (lines ("b 3 2 0" ∷ "b 4 -2 0" ∷ "s 1 3 0" ∷ [])) ≡ refused_proof 30 3
+  pub left_out : verdict (rules ("1 0 1 1 0 1 2" ∷ "1 0 1 1 0 1 -2" ∷ [])) (lines ("b 3 2 0" ∷ "b 4 -2 0" ∷ "s 1 3 0" ∷ [])) ≡ refused_proof NoSupport 3
 
 -- The worked example of source document 000: its example 1's eight rules, and the 26 lines of its figure 1. It is no starred one.
 
@@ -171,10 +176,10 @@ weight_rules = rules ("1 1 3 1 2 3 0 0" ∷ "1 0 0 1 4 3 1 3 2 2 3 2" ∷ "1 0 0
 pub record WeightBodies : Type 0 where
   pub refuted : verdict weight_rules (lines ("b 4 1 2 0" ∷ "b 5 -1 0" ∷ "b 6 -2 0" ∷ "c 4 0" ∷ "c 5 0" ∷ "c 6 0" ∷ "a 0" ∷ [])) ≡ inconsistent 3 4 7 11
   -- the whole literal set reaches the bound and is not minimal
-  pub whole_set : verdict weight_rules (lines ("b 4 1 2 3 0" ∷ [])) ≡ refused_proof 28 1
+  pub whole_set : verdict weight_rules (lines ("b 4 1 2 3 0" ∷ [])) ≡ refused_proof NoUnnamedBody 1
   -- "a weight or bound out of its range is 54, more than 12 literals 55"
-  pub weight_range : verdict (rules ("1 0 1 1 1 3 1 2 -1" ∷ [])) [] ≡ refused_program 54 2
-  pub too_many : verdict (rules ("1 0 0 1 1 13 1 1 2 1 3 1 4 1 5 1 6 1 7 1 8 1 9 1 10 1 11 1 12 1 13 1" ∷ [])) [] ≡ refused_program 55 2
+  pub weight_range : verdict (rules ("1 0 1 1 1 3 1 2 -1" ∷ [])) [] ≡ refused_program WeightOutOfRange 2
+  pub too_many : verdict (rules ("1 0 0 1 1 13 1 1 2 1 3 1 4 1 5 1 6 1 7 1 8 1 9 1 10 1 11 1 12 1 13 1" ∷ [])) [] ≡ refused_program TooManyWeights 2
 
 -- A broken constraint, no starred one: the first rule is a constraint that stands for three plain ones, of {1, 2}, {1, 3} and {2, 3}, the third
 -- a choice. The set {1} equals the least model, and breaks the second rule and the fourth.
@@ -183,7 +188,7 @@ abbrev pub broken_rules : List ℕ
 broken_rules = rules ("1 0 0 1 4 3 1 3 2 2 3 2" ∷ "1 0 0 0 2 1 -2" ∷ "1 1 3 1 2 3 0 0" ∷ "1 0 0 0 1 1" ∷ [])
 
 pub record BrokenSecond : Type 0 where
-  pub answered : SetFails broken_rules (1 ∷ []) (Broken 2)
+  pub answered : SetFails broken_rules (1 ∷ []) (Ok (Broken 2))
   -- what that number means: `LowestBroken` in crates/answer_set/specs/Claims.antt
   pub lowest : LowestRule (Listed (1 ∷ [])) answered.P 2
 
@@ -191,10 +196,10 @@ pub record BrokenSecond : Type 0 where
 pub record LoopsOnly : Type 0 where
   -- "A set that is no loop is refused with 56, asked right after question 31": with example 6's rules 1 alone is none.
   -- Question 32 would be answered no too, since its external body has no name.
-  pub six_no_loop : verdict program6 (lines ("l 1 0" ∷ [])) ≡ refused_proof 56 1
+  pub six_no_loop : verdict program6 (lines ("l 1 0" ∷ [])) ≡ refused_proof NoLoop 1
   -- "weight rules as expanded": with bound 2 on 1=2, 2=1 the minimal set is {1}; on 1=1, 2=2 it is {2}
   pub weight_loop : verdict (rules ("1 0 1 1 1 2 2 1 2 2 1" ∷ [])) (lines ("l 1 0" ∷ [])) ≡ undecided 2 1 1 1
-  pub weight_no_loop : verdict (rules ("1 0 1 1 1 2 2 1 1 2 2" ∷ [])) (lines ("l 1 0" ∷ [])) ≡ refused_proof 56 1
+  pub weight_no_loop : verdict (rules ("1 0 1 1 1 2 2 1 1 2 2" ∷ [])) (lines ("l 1 0" ∷ [])) ≡ refused_proof NoLoop 1
 
 -- Origins (Change 7), no starred ones: the store that each proof leaves, of the length given, with 0 after its words. The fact
 -- `1 0 1 1 0 0` is the one rule of all but the first two.
@@ -228,14 +233,14 @@ pub record OriginWords : Type 0 where
       (pos 2 ∷ pos 2 ∷ neg 1 ∷ pos 2
       ∷ pos 4 ∷ pos 2 ∷ neg 1 ∷ pos 2
       ∷ pos 5 ∷ pos 2 ∷ neg 1 ∷ pos 2 ∷ [])
-  pub again_short : leaves fact (lines ("b 2 0" ∷ "c 2 1 0" ∷ "d -2 0" ∷ "c 2 1 0" ∷ "c 2 1 0" ∷ [])) 11 (refused_proof 34 5) []
+  pub again_short : leaves fact (lines ("b 2 0" ∷ "c 2 1 0" ∷ "d -2 0" ∷ "c 2 1 0" ∷ "c 2 1 0" ∷ [])) 11 (refused_proof StoreFull 5) []
   -- all nogoods of one `e` carry its number
   pub together : leaves fact (lines ("b 2 0" ∷ "e 3 1 2 0" ∷ [])) 16 (undecided 1 1 2 4)
       (pos 1 ∷ pos 1 ∷ neg 2
       ∷ pos 2 ∷ pos 3 ∷ pos 1 ∷ pos 2 ∷ neg 3
       ∷ pos 2 ∷ pos 2 ∷ neg 1 ∷ pos 3
       ∷ pos 2 ∷ pos 2 ∷ neg 2 ∷ pos 3 ∷ [])
-  pub together_short : leaves fact (lines ("b 2 0" ∷ "e 3 1 2 0" ∷ [])) 15 (refused_proof 34 2) []
+  pub together_short : leaves fact (lines ("b 2 0" ∷ "e 3 1 2 0" ∷ [])) 15 (refused_proof StoreFull 2) []
 
 -- Marks and closing up (Change 8), no starred ones: the same rules, stores and lengths
 
@@ -281,15 +286,15 @@ pub record DeadWords : Type 0 where
   pub extends : leaves fact (lines then_extended) 16 (undecided 1 1 3 3) (neg 1 ∷ pos 1 ∷ neg 2 ∷ extended)
   pub extends_closed : leaves fact (lines then_extended) 15 (undecided 1 1 3 3) extended
   pub extends_exactly : leaves fact (lines then_extended) 13 (undecided 1 1 3 3) extended
-  pub extends_short : leaves fact (lines then_extended) 12 (refused_proof 34 3) []
+  pub extends_short : leaves fact (lines then_extended) 12 (refused_proof StoreFull 3) []
   -- closed up again and again
   pub closed_once : leaves fact (lines over_and_over) 8 (undecided 1 1 7 1) (neg 5 ∷ pos 2 ∷ neg 1 ∷ pos 2 ∷ completed 7)
   pub closed_twice : leaves fact (lines over_and_over) 7 (undecided 1 1 7 1) (completed 7)
-  pub never_fits : leaves fact (lines over_and_over) 6 (refused_proof 34 2) []
+  pub never_fits : leaves fact (lines over_and_over) 6 (refused_proof StoreFull 2) []
   -- the dead refute nothing
-  pub dead_refute_nothing : verdict program1 (proof1 ++ lines ("d 0" ∷ "d 1 0" ∷ "a 0" ∷ [])) ≡ refused_proof 33 8
+  pub dead_refute_nothing : verdict program1 (proof1 ++ lines ("d 0" ∷ "d 1 0" ∷ "a 0" ∷ [])) ≡ refused_proof NoConflict 8
 
 -- lines with numbers of several digits, of which the starred examples have none
 pub record LongLines : Type 0 where
   pub open_line : verdict_line (undecided 8191 1 0 0) ≡ lines ("open 8191 1 0 0" ∷ [])
-  pub program_line : verdict_line (refused_program 10 1025) ≡ lines ("refused program 10 1025" ∷ [])
+  pub program_line : verdict_line (refused_program TableFull 1025) ≡ lines ("refused program 10 1025" ∷ [])

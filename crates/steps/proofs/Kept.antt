@@ -16,21 +16,23 @@ use Rattle.derivation.specs.Steps.{add}
 use Rattle.nogoods.specs.Store.{Stored, added_in, live, kept_with}
 use Rattle.nogoods.specs.Keeps.{Literals}
 use Rattle.nogoods.specs.Index.{Fits}
-use Rattle.nogoods.specs.declared.store.Added.{Added}
+use Rattle.std.specs.declared.option.Option.{Option}
+use Rattle.std.specs.declared.option.Option.TheVariants.{Some, None}
 use Rattle.nogoods.proofs.Literals.{literals-ascending, literals-complement-others}
 use Rattle.nogoods.proofs.Defined.{name-and-literals}
 use Rattle.steps.specs.After.{with_added}
 use Rattle.steps.specs.Held.{fitted, Fitted, HoldsState}
-use Rattle.steps.specs.declared.outcomes.Stepped.{Stepped}
+use Rattle.std.specs.Prelude.{Result}
+use Rattle.drupe.specs.declared.ProofFault.{ProofFault}
 
 -- what is added fits, or the step is refused
-pub kept-fits : (stored : List Stored) (store : List ℤ) (index : List ℕ) (a : Added) → Fits stored store index a
+pub kept-fits : (stored : List Stored) (store : List ℤ) (index : List ℕ) (a : Option ℕ) → Fits stored store index a
     → Fitted stored store index (fitted a)
-kept-fits stored store index (Added.Uses n) h = h
-kept-fits stored store index Added.Full h = (refl, h)
+kept-fits stored store index (Some n) h = h
+kept-fits stored store index None h = (refl, h)
 
 -- one nogood more, which is g
-pub kept-one : (stored : List Stored) (n size : ℕ) (store : List ℤ) (index : List ℕ) {l g : List ℤ} (a : Added) {r : Stepped} → r ≡ fitted a → l ≡ g
+pub kept-one : (stored : List Stored) (n size : ℕ) (store : List ℤ) (index : List ℕ) {l g : List ℤ} (a : Option ℕ) {r : Result ℕ ProofFault} → r ≡ fitted a → l ≡ g
     → Fits (kept_with size (added_in n (l ∷ [])) stored) store index a → Fitted (kept_with size (added_in n (g ∷ [])) stored) store index r
 kept-one stored n size store index {l} a e p h = rw (e, ← p) (kept-fits (kept_with size (added_in n (l ∷ [])) stored) store index a h)
 
@@ -40,7 +42,7 @@ new-only stored l gs e = ap (λ (k : List (List ℤ)). drop (length k) (l ++ gs)
 
 -- nogoods that are added to those stored are added to the state that these are of
 pub kept_more : {store : List ℤ} {index : List ℕ} {used : ℕ} {z : State} {stored : List Stored} → HoldsState store index used z stored
-    → (n size : ℕ) (gs : List (List ℤ)) (after : List ℤ) (index' : List ℕ) (r : Stepped)
+    → (n size : ℕ) (gs : List (List ℤ)) (after : List ℤ) (index' : List ℕ) (r : Result ℕ ProofFault)
     → Fitted (kept_with size (added_in n gs) stored) after index' r → Fitted (with_added n size stored (add z gs)) after index' r
 kept_more {z = z} {stored = stored} K n size gs after index' r f =
     subst (λ (hs : List (List ℤ)). Fitted (kept_with size (added_in n hs) stored) after index' r) (sym (new-only stored z.live gs K.same)) f

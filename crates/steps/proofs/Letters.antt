@@ -38,6 +38,7 @@ use Rattle.heads.specs.Heads.{is_just_names}
 use Rattle.steps.specs.Held.{PassedLine, name_of, Tracks}
 use Rattle.steps.proofs.Tracking.{all_known_lem, extended, named}
 use Rattle.steps.proofs.Names.{unnamed-test, completes, supports, supports-by-names}
+use Rattle.drupe.specs.declared.ProofFault.TheVariants.{UnknownVariable, KnownName}
 
 -- The first number of a line, and the others
 
@@ -134,13 +135,13 @@ asked-heads h = fun_ext (λ r. ap (λ (b : Bool). has h r.heads && not b) (none 
 
 module _ {N : ℕ} {ws : List InputRule} {known names : List ℕ} {bodies : List ℤ} (z : State) (tracks : Tracks N ws known names bodies z.introduced z.named) (x : Letter) (zs : List ℤ) (line : PassedLine x zs) where
   -- a line that introduces no name
-  pub cited : introduces x ≡ false → {b : Bool} → all (λ y. marked known (variable y)) zs ≡ b → by_letter N (expand ws) z x zs ≡ cond b (own N (expand ws) z x zs) (refused 26)
+  pub cited : introduces x ≡ false → {b : Bool} → all (λ y. marked known (variable y)) zs ≡ b → by_letter N (expand ws) z x zs ≡ cond b (own N (expand ws) z x zs) (refused UnknownVariable)
   cited none e = by-letter N (expand ws) z x zs line ∙ rw (none, ← all_known_lem z tracks zs line.literals.high, e)
 
   -- a line that introduces a name
   module _ (needed : (signs_of x).needed ≡ true) where
     pub introduced : introduces x ≡ true → {b c : Bool} → all (λ y. marked known (variable y)) (others zs) ≡ b → marked known (variable (first zs)) ≡ c
-        → by_letter N (expand ws) z x zs ≡ cond b (cond c (refused 27) (own N (expand ws) z x zs)) (refused 26)
+        → by_letter N (expand ws) z x zs ≡ cond b (cond c (refused KnownName) (own N (expand ws) z x zs)) (refused UnknownVariable)
     introduced one e f =
         by-letter N (expand ws) z x zs line
         ∙ rw (one, ← all_known_lem z tracks (drop 1 zs) (others-literals x needed line).high, ← tail_of 1 zs, e, ← tracks.knows (variable (first zs)) (first-high x needed line), f)

@@ -27,18 +27,18 @@ use Rattle.derivation.specs.Steps.{add, is_external, all_atoms, all_named, by_le
 use Rattle.names.specs.Queries.{asks, asked_names}
 use Rattle.names.specs.declared.queries.Query.TheVariants.{External}
 use Rattle.heads.specs.Heads.{Externals}
-use Rattle.heads.specs.declared.Found.TheVariants.{Names}
+use Rattle.std.specs.Prelude.{Some, Result, Err}
 use Rattle.loops.specs.Edges.{Members}
 use Rattle.nogoods.specs.Store.{Stored}
 use Rattle.steps.specs.After.{with_added, stored_after}
 use Rattle.steps.specs.Held.{Program, PassedLine, name_of, Tracks, Above, LoopNogood, LoopAdded, Fitted, HoldsState, Leaves, gathered}
-use Rattle.steps.specs.declared.outcomes.Stepped.{Stepped}
-use Rattle.steps.specs.declared.outcomes.Stepped.TheVariants.{Fails}
 use Rattle.steps.proofs.Names.{all_named_lem, name-found}
 use Rattle.steps.proofs.Letters.{some_number, cited}
 use Rattle.steps.proofs.Loops.{all-atoms, external-by, row-gathered, loop-nogood}
 use Rattle.steps.proofs.Gathering.{gathered-count}
 use Rattle.steps.proofs.Kept.{kept_more}
+use Rattle.drupe.specs.declared.ProofFault.TheVariants.{NoAtoms, UnnamedBody, NoLoop}
+use Rattle.drupe.specs.declared.ProofFault.{ProofFault}
 
 -- the numbers of an `l` line are positive
 positive : (U : List ℤ) → PassedLine Loop U → (x : ℤ) → x ∈ U → T (is_positive x)
@@ -84,8 +84,8 @@ asked-above {called} h f m P v e k =
 -- the nogood of an `l` step from a row of names: the first n + 1 words of w are h and their complements
 pub row-nogood : {table : List ℤ} {rules : ℕ} {names : List ℕ} {bodies : List ℤ} {h : ℤ} {ws : List InputRule} {called : List ℤ → ℕ}
     → Above table rules names bodies h ws called → (m : List ℕ) (row w : List ℤ) (n : ℕ) → 1 ≤ variable h → variable h ≤ largest
-    → Externals (asked_names External m called (expand ws)) row (Names n) → n + 1 ≤ length w → take (n + 1) w ≡ h ∷ map complement (take n row)
-    → LoopNogood (asked_names External m called (expand ws)) h w (Names (n + 1))
+    → Externals (asked_names External m called (expand ws)) row (Some n) → n + 1 ≤ length w → take (n + 1) w ≡ h ∷ map complement (take n row)
+    → LoopNogood (asked_names External m called (expand ws)) h w (Some (n + 1))
 row-nogood {h = h} {ws} {called} A m row w n low high E room e =
     let l = asked_names External m called (expand ws) in
     let g = e ∙ row-gathered (listed l) h (take n row) low high E.1 E.2 E.3 (λ v i t k. asked-above h A.above m (expand ws) v t k) in
@@ -94,7 +94,7 @@ row-nogood {h = h} {ws} {called} A m row w n low high E room e =
 module _ {N : ℕ} {ws : List InputRule} {known names : List ℕ} {bodies : List ℤ} (z : State) (tracks : Tracks N ws known names bodies z.introduced z.named)
     (origin size : ℕ) (stored : List Stored) (store : List ℤ) (index : List ℕ) where
   -- what the step of this number leaves
-  abbrev LoopLeaves : List ℤ → Stepped → Type 0
+  abbrev LoopLeaves : List ℤ → Result ℕ ProofFault → Type 0
   LoopLeaves U r = Leaves N ws (stored_after origin size Loop U stored) known names bodies store index (by_letter N (expand ws) z Loop U) r
 
   module _ (U : List ℤ) (line : PassedLine Loop U) where
@@ -104,12 +104,12 @@ module _ {N : ℕ} {ws : List InputRule} {known names : List ℕ} {bodies : List
     atoms_are : top U ≤ N → all_atoms N z U ≡ true
     atoms_are = is_true (all-atoms N z U line.literals.low)
 
-  pub loop-atoms : (U : List ℤ) → PassedLine Loop U → all (λ x. marked known (variable x)) U ≡ true → N < top U → LoopLeaves U (Fails 31)
+  pub loop-atoms : (U : List ℤ) → PassedLine Loop U → all (λ x. marked known (variable x)) U ≡ true → N < top U → LoopLeaves U (Err NoAtoms)
   loop-atoms [] line k a = absurd (true≢false (sym line.signs))
   loop-atoms (h ∷ hs) line k a = rw (cited z tracks Loop (h ∷ hs) line refl k, atoms-not (h ∷ hs) line a) refl
 
   pub loop-not : (U : List ℤ) → PassedLine Loop U → all (λ x. marked known (variable x)) U ≡ true → top U ≤ N
-      → is_loop (expand ws) U ≡ false → LoopLeaves U (Fails 56)
+      → is_loop (expand ws) U ≡ false → LoopLeaves U (Err NoLoop)
   loop-not [] line k a l = absurd (true≢false (sym line.signs))
   loop-not (h ∷ hs) line k a l = rw (cited z tracks Loop (h ∷ hs) line refl k, atoms_are (h ∷ hs) line a, l) refl
 
@@ -127,14 +127,14 @@ module _ {N : ℕ} {ws : List InputRule} {known names : List ℕ} {bodies : List
 
     loop-named : (U : List ℤ) → PassedLine Loop U → all (λ x. marked known (variable x)) U ≡ true → top U ≤ N
         → is_loop (expand ws) U ≡ true → Marks inside (map variable U)
-        → listed asked 0 ≡ true → LoopLeaves U (Fails 32)
+        → listed asked 0 ≡ true → LoopLeaves U (Err UnnamedBody)
     loop-named [] line k a l set n = absurd (true≢false (sym line.signs))
     loop-named (h ∷ hs) line k a l set n =
         rw (cited z tracks Loop (h ∷ hs) line refl k, atoms_are (h ∷ hs) line a, l, sym (named-is (h ∷ hs) line set) ∙ ap not n) refl
 
     loop-added : (U : List ℤ) → PassedLine Loop U → all (λ x. marked known (variable x)) U ≡ true → top U ≤ N
         → is_loop (expand ws) U ≡ true → Marks inside (map variable U)
-        → listed asked 0 ≡ false → N ≤ largest → (r : Stepped)
+        → listed asked 0 ≡ false → N ≤ largest → (r : Result ℕ ProofFault)
         → Fitted (with_added origin size stored (add z (gathered (listed asked) (get_or U 0 (pos 0)) largest 1 ∷ []))) store index r → LoopLeaves U r
     loop-added [] line k a l set n high r q = absurd (true≢false (sym line.signs))
     loop-added (h ∷ hs) line k a l set n high r q =
@@ -147,7 +147,7 @@ module _ {N : ℕ} {ws : List InputRule} {known names : List ℕ} {bodies : List
     -- by what is added to the store, which held the state before
     pub loop-ends : (U : List ℤ) → PassedLine Loop U → all (λ x. marked known (variable x)) U ≡ true → top U ≤ N
         → is_loop (expand ws) U ≡ true → Marks inside (map variable U) → N ≤ largest
-        → {before : List ℤ} {was : List ℕ} {used : ℕ} → HoldsState before was used z stored → (r : Stepped)
+        → {before : List ℤ} {was : List ℕ} {used : ℕ} → HoldsState before was used z stored → (r : Result ℕ ProofFault)
         → LoopAdded asked (get_or U 0 (pos 0)) size origin stored store index r → LoopLeaves U r
     loop-ends U line k a l set high K r (inl q) = subst (LoopLeaves U) (sym q.1) (loop-named U line k a l set q.0)
     loop-ends U line k a l set high K r (inr q) = loop-added U line k a l set q.0 high r (kept_more K origin size _ store index r q.1)

@@ -2,7 +2,7 @@
 -- Assumes nothing.
 use mathlib.Core.Path.{◌≡◌, refl, ◌∙◌, subst}
 use mathlib.Core.Bool.{Bool, true, false, cond, ◌||◌, or_comm}
-use mathlib.Core.Option.{Option, none, some}
+use Rattle.std.specs.Prelude.{Option, None, Some}
 use mathlib.Core.List.Memᴰ
 use mathlib.Core.List.{List, [], ◌∷◌}
 use Prim.Native.Nat.{ℕ}
@@ -25,14 +25,16 @@ use Rattle.derivation.specs.States.{State}
 use Rattle.derivation.specs.Steps.{Outcome, next, step, by_letter}
 use Rattle.derivation.specs.Steps as Steps
 use Rattle.steps.specs.Held.{PassedLine}
+use Rattle.drupe.specs.declared.ProofFault.TheVariants.{Malformed, OutOfRange, WrongSigns, RepeatedVariable}
+use Rattle.drupe.specs.declared.ProofFault.{ProofFault}
 
 -- A line that passed questions 22 to 25
 
-module _ (x : Letter) (zs : List ℤ) (asked : line_refusal x zs ≡ none) (zero-free : has (pos 0) zs ≡ false) where
+module _ (x : Letter) (zs : List ℤ) (asked : line_refusal x zs ≡ None) (zero-free : has (pos 0) zs ≡ false) where
   tests : (any_outside zs ≡ false) × (signed (signs_of x) zs ≡ true) × (distinct zs ≡ true)
   tests = by (any_outside zs || ltb most_numbers (length zs)) refl (signed (signs_of x) zs) (distinct zs) asked
     where
-      by : (a : Bool) → (any_outside zs || ltb most_numbers (length zs)) ≡ a → (b c : Bool) → cond {A = Option ℕ} a (some 23) (cond b (cond c none (some 25)) (some 24)) ≡ none
+      by : (a : Bool) → (any_outside zs || ltb most_numbers (length zs)) ≡ a → (b c : Bool) → cond {A = Option ProofFault} a (Some OutOfRange) (cond b (cond c None (Some RepeatedVariable)) (Some WrongSigns)) ≡ None
           → (any_outside zs ≡ false) × (b ≡ true) × (c ≡ true)
       by true q b c e = absurd (zero_one (cc))
       by false q false c e = absurd (zero_one (cc))
@@ -57,11 +59,11 @@ module _ (x : Letter) (zs : List ℤ) (asked : line_refusal x zs ≡ none) (zero
 accepted-passes : (N : ℕ) (P : List Rule) (z w : State) (t : Step) → step N P z t ≡ next w → LinePasses t
 accepted-passes N P z w t e = by (has (pos 0) t.numbers) refl (line_refusal t.letter t.numbers) refl e
   where
-    by : (b : Bool) → has (pos 0) t.numbers ≡ b → (o : Option ℕ) → line_refusal t.letter t.numbers ≡ o
-        → cond b (Steps.refused 22) (elim o as (λ x. Outcome) [ some k ↦ Steps.refused k | none ↦ by_letter N P z t.letter t.numbers ]) ≡ next w → LinePasses t
+    by : (b : Bool) → has (pos 0) t.numbers ≡ b → (o : Option ProofFault) → line_refusal t.letter t.numbers ≡ o
+        → cond b (Steps.refused Malformed) (elim o as (λ x. Outcome) [ Some k ↦ Steps.refused k | None ↦ by_letter N P z t.letter t.numbers ]) ≡ next w → LinePasses t
     by true p o q e = absurd (zero_one (cc))
-    by false p (some k) q e = absurd (zero_one (cc))
-    by false p none q e = (q, p)
+    by false p (Some k) q e = absurd (zero_one (cc))
+    by false p None q e = (q, p)
 
 pub steps-pass : (N : ℕ) (P : List Rule) (z w : State) (ts : List Step) → Steps.steps N P z ts ≡ next w → (t : Step) → t ∈ ts → LinePasses t
 steps-pass N P z w [] e t m = elim m [ ]

@@ -1,7 +1,7 @@
 -- What the functions of the steps cite, and no reader of a public contract needs: how the code holds a program and a state (known variables
 -- as marks, the names of bodies by rule and by name, live nogoods in the store), and what a step leaves.
 -- Assumes nothing.
-use Rattle.std.specs.Prelude.{◌≡◌, ◌⊎◌, Bool, true, false, cond, List, [], ◌∷◌, map, ℕ, zero, suc, ◌≤◌, ◌<◌, T, eqb, ℤ, pos, neg_ℤ, length, replicate, take}
+use Rattle.std.specs.Prelude.{◌≡◌, ◌⊎◌, Bool, true, false, cond, Option, Some, None, List, [], ◌∷◌, map, ℕ, zero, suc, ◌≤◌, ◌<◌, T, eqb, ℤ, pos, neg_ℤ, length, replicate, take, Result, Ok, Err}
 use Rattle.words.specs.Limits.{largest, entries, most_numbers}
 use Rattle.words.specs.Lists.{◌∈◌}
 use Rattle.words.specs.Literals.{variable, distinct, same_list}
@@ -14,15 +14,12 @@ use Rattle.derivation.specs.Steps.{Outcome, refused, next, by_letter}
 use Rattle.nogoods.specs.Keeps.{Literals}
 use Rattle.nogoods.specs.Index.{Keeps, BlankIndex}
 use Rattle.nogoods.specs.Store.{Stored, added_in, live, kept_with, words_for}
-use Rattle.nogoods.specs.declared.store.Added.{Added}
 use Rattle.names.specs.ByName.{body_words}
 use Rattle.names.specs.Queries.{HoldsRules, Kept}
-use Rattle.heads.specs.declared.Found.{Found}
-use Rattle.heads.specs.declared.Found.TheVariants.{Names, Unnamed}
 use Rattle.steps.specs.After.{stored_after}
 use Rattle.steps.specs.declared.states.CheckingState.{CheckingState}
-use Rattle.steps.specs.declared.outcomes.Stepped.{Stepped}
-use Rattle.steps.specs.declared.outcomes.Stepped.TheVariants.{Uses, Fails}
+use Rattle.drupe.specs.declared.ProofFault.TheVariants.{UnnamedBody, StoreFull}
+use Rattle.drupe.specs.declared.ProofFault.{ProofFault}
 
 -- The program and a line
 
@@ -74,14 +71,14 @@ NoBodies ws bodies = all_plain ws ≡ false → bodies ≡ replicate body_words 
 -- Steps
 
 -- question 34: a full store is refused
-abbrev pub fitted : Added → Stepped
-fitted (Added.Uses n) = Uses n
-fitted Added.Full = Fails 34
+abbrev pub fitted : Option ℕ → Result ℕ ProofFault
+fitted (Some n) = Ok n
+fitted None = Err StoreFull
 
 -- the store holds what is stored, or it does not fit: "Do the live words after the step fit the store? 34."
-abbrev pub Fitted : List Stored → List ℤ → List ℕ → Stepped → Type 0
-Fitted stored store index (Uses n) = Keeps store index n stored
-Fitted stored store index (Fails k) = (k ≡ 34) × (length store < words_for (live stored))
+abbrev pub Fitted : List Stored → List ℤ → List ℕ → Result ℕ ProofFault → Type 0
+Fitted stored store index (Ok n) = Keeps store index n stored
+Fitted stored store index (Err k) = (k ≡ StoreFull) × (length store < words_for (live stored))
 
 -- store and index keep what is stored in the store's first `used` words, and what is live of it are the state's nogoods
 pub record HoldsState (store : List ℤ) (index : List ℕ) (used : ℕ) (z : State) (stored : List Stored) : Type 0 where
@@ -97,14 +94,14 @@ pub record Starts (c : CheckingState) : Type 0 where
 -- what a step leaves, by what it comes to: the number of the question, or arrays and store that hold the next state, with what is
 -- `after` it in the store
 abbrev pub Leaves : ℕ → List InputRule → (after : State → List Stored) → List ℕ → List ℕ → List ℤ → List ℤ → List ℕ
-    → Outcome → Stepped → Type 0
-Leaves N ws after known names bodies store index (refused k) r = r ≡ Fails k
+    → Outcome → Result ℕ ProofFault → Type 0
+Leaves N ws after known names bodies store index (refused k) r = r ≡ Err k
 Leaves N ws after known names bodies store index (next z) r =
     Fitted (after z) store index r × Tracks N ws known names bodies z.introduced z.named
 
 -- the contract of a letter's function: what step n leaves, of whatever state the arrays and the store held before
 abbrev pub Stepping : ℕ → List InputRule → Letter → List ℤ → (used n : ℕ)
-    → List ℕ → List ℕ → List ℤ → List ℤ → List ℕ → List ℕ → List ℕ → List ℤ → List ℤ → List ℕ → Stepped → Type 0
+    → List ℕ → List ℕ → List ℤ → List ℤ → List ℕ → List ℕ → List ℕ → List ℤ → List ℤ → List ℕ → Result ℕ ProofFault → Type 0
 Stepping N ws x zs used n known names bodies store index known' names' bodies' store' index' r =
     (z : State) (stored : List Stored) → Tracks N ws known names bodies z.introduced z.named → HoldsState store index used z stored
     → Leaves N ws (stored_after n (length store) x zs stored) known' names' bodies' store' index' (by_letter N (expand ws) z x zs) r
@@ -122,12 +119,12 @@ pub record Above (table : List ℤ) (rules : ℕ) (names : List ℕ) (bodies : L
   pub above : (L : List ℤ) → ¬ (called L ≡ 0) → variable h < called L
 
 -- the nogood of an `l` step, in the first n words of a row, where l are the names of the external bodies; or some body has none
-abbrev pub LoopNogood : List ℕ → ℤ → List ℤ → Found → Type 0
-LoopNogood l h row (Names n) = (n ≤ largest) × (take n row ≡ gathered (listed l) h largest 1) × (listed l 0 ≡ false) × (n ≤ length row)
-LoopNogood l h row Unnamed = listed l 0 ≡ true
+abbrev pub LoopNogood : List ℕ → ℤ → List ℤ → Option ℕ → Type 0
+LoopNogood l h row (Some n) = (n ≤ largest) × (take n row ≡ gathered (listed l) h largest 1) × (listed l 0 ≡ false) × (n ≤ length row)
+LoopNogood l h row None = listed l 0 ≡ true
 
 -- what an `l` step comes to that adds to what is stored: question 32, or this nogood
-abbrev pub LoopAdded : List ℕ → ℤ → (size n : ℕ) → List Stored → List ℤ → List ℕ → Stepped → Type 0
+abbrev pub LoopAdded : List ℕ → ℤ → (size n : ℕ) → List Stored → List ℤ → List ℕ → Result ℕ ProofFault → Type 0
 LoopAdded l h size n stored store index r =
-    ((listed l 0 ≡ true) × (r ≡ Fails 32))
+    ((listed l 0 ≡ true) × (r ≡ Err UnnamedBody))
     ⊎ ((listed l 0 ≡ false) × Fitted (kept_with size (added_in n (gathered (listed l) h largest 1 ∷ [])) stored) store index r)

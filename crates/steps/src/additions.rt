@@ -10,7 +10,7 @@ ghost use Rattle.nogoods.specs.Index.{Keeps};
 ghost use Rattle.steps.specs.Held.{PassedLine, Stepping};
 
 use crate::outcomes;
-use crate::outcomes::Stepped;
+use drupe::ProofFault;
 use nogoods::store;
 use words::ENTRIES;
 
@@ -25,7 +25,7 @@ pub fn addition(
     numbers: &[i32],
     sorted: &[i32],
     assignment: &mut [u8; ENTRIES],
-) -> Stepped
+) -> Result<usize, ProofFault>
     requires store { ((stored : List Stored) × Keeps store.old index.old used stored) × ((1 ≤ origin) × (origin ≤ widest)) }
     requires line { PassedLine Addition numbers.now }
     requires sorted { sorted.now ≡ ascending numbers.now }
@@ -36,10 +36,10 @@ pub fn addition(
     ensures free { assignment.new ≡ replicate entries 0 }
 {
     if !marks::all_marked(numbers, known) {
-        return Stepped::Fails(26);
+        return Err(ProofFault::UnknownVariable);
     }
     if !propagation::refutes(store, used, index, assignment, numbers) {
-        return Stepped::Fails(33);
+        return Err(ProofFault::NoConflict);
     }
     outcomes::fitted(store::append(store, used, index, origin, sorted))
 }
@@ -52,7 +52,7 @@ pub fn deletion(
     index: &mut [u32],
     numbers: &[i32],
     sorted: &[i32],
-) -> Stepped
+) -> Result<usize, ProofFault>
     requires store { (stored : List Stored) × Keeps store.old index.old used stored }
     requires line { PassedLine Deletion numbers.now }
     requires sorted { sorted.now ≡ ascending numbers.now }
@@ -61,7 +61,7 @@ pub fn deletion(
         known.now names bodies store.new index.new result }
 {
     if !marks::all_marked(numbers, known) {
-        return Stepped::Fails(26);
+        return Err(ProofFault::UnknownVariable);
     }
-    Stepped::Uses(store::delete(store, used, index, sorted))
+    Ok(store::delete(store, used, index, sorted))
 }

@@ -23,7 +23,7 @@ ghost use Rattle.loops.specs.Relevance.{Relevant};
 ghost use Rattle.steps.specs.Held.{PassedLine, Program, Tracked, Stepping};
 
 use crate::additions::addition;
-use crate::outcomes::Stepped;
+use drupe::ProofFault;
 use text::Letter;
 use words::ENTRIES;
 
@@ -41,7 +41,7 @@ fn step_of_body(
     used: usize,
     index: &mut [u32],
     origin: usize,
-) -> Stepped
+) -> Result<usize, ProofFault>
     requires letter { (letter ≡ Body) ⊎ (letter ≡ Completion) }
     requires program { ((ws : List InputRule) × HoldsRules table.now rules ws) × (rules ≤ length names.old) }
     requires index { Indexed lookup.now table.now rules }
@@ -78,7 +78,7 @@ fn step_of_heads(
     used: usize,
     index: &mut [u32],
     origin: usize,
-) -> Stepped
+) -> Result<usize, ProofFault>
     requires letter { (letter ≡ Loop) ⊎ (letter ≡ Support) }
     requires state { Tracked table.now rules atoms known.now names.now bodies.now }
     requires index { Indexed lookup.now table.now rules }
@@ -120,7 +120,7 @@ pub fn step(
     index: &mut [u32],
     origin: usize,
     assignment: &mut [u8; ENTRIES],
-) -> Stepped
+) -> Result<usize, ProofFault>
     requires state { Tracked table.now rules atoms known.old names.old bodies.old }
     requires index { Indexed lookup.now table.now rules }
     requires relevant { Relevant relevant.now (rules_at rules table.now) }

@@ -14,8 +14,8 @@ ghost use Rattle.heads.specs.Heads.{Indexed};
 ghost use Rattle.steps.specs.Held.{PassedLine, name_of, Tracks, Fitted, Stepping};
 
 use crate::outcomes;
-use crate::outcomes::Stepped;
 use crate::states::CheckingState;
+use drupe::ProofFault;
 use nogoods::{definitions, store};
 
 // The name is known from now on, and its definition live.
@@ -26,7 +26,7 @@ fn define(
     index: &mut [u32],
     origin: usize,
     numbers: &mut [i32],
-) -> Stepped
+) -> Result<usize, ProofFault>
     requires store { ((stored : List Stored) × Keeps store.old index.old used stored) × ((1 ≤ origin) × (origin ≤ widest)) }
     requires line { Literals numbers.old × (1 ≤ length numbers.old) × (length numbers.old ≤ most_numbers) }
     ensures known { known.new ≡ set known.old (variable (get_or numbers.old 0 (pos 0))) 1 }
@@ -47,7 +47,7 @@ pub fn extension(
     index: &mut [u32],
     origin: usize,
     numbers: &mut [i32],
-) -> Stepped
+) -> Result<usize, ProofFault>
     requires store { ((stored : List Stored) × Keeps store.old index.old used stored) × ((1 ≤ origin) × (origin ≤ widest)) }
     requires line { PassedLine Extension numbers.old }
     ensures { (N : ℕ) (ws : List InputRule) (names : List ℕ) (bodies : List ℤ)
@@ -55,10 +55,10 @@ pub fn extension(
         known.new names bodies store.new index.new result }
 {
     if !marks::all_marked(&numbers[1..], known) {
-        return Stepped::Fails(26);
+        return Err(ProofFault::UnknownVariable);
     }
     if marks::is_marked(known, words::variable_of(numbers[0])) {
-        return Stepped::Fails(27);
+        return Err(ProofFault::KnownName);
     }
     define(known, store, used, index, origin, numbers)
 }
@@ -107,7 +107,7 @@ pub fn body(
     index: &mut [u32],
     origin: usize,
     numbers: &mut [i32],
-) -> Stepped
+) -> Result<usize, ProofFault>
     requires program { ((ws : List InputRule) × HoldsRules table.now rules ws) × (rules ≤ length names.old) }
     requires index { Indexed lookup.now table.now rules }
     requires store { ((stored : List Stored) × Keeps store.old index.old used stored) × ((1 ≤ origin) × (origin ≤ widest)) }
@@ -118,11 +118,11 @@ pub fn body(
         known.new names.new bodies.new store.new index.new result }
 {
     if !marks::all_marked(&numbers[1..], known) {
-        return Stepped::Fails(26);
+        return Err(ProofFault::UnknownVariable);
     }
     let name = words::variable_of(numbers[0]);
     if marks::is_marked(known, name) {
-        return Stepped::Fails(27);
+        return Err(ProofFault::KnownName);
     }
     let count = numbers.len();
     let mut row = [0i32; CheckingState::NUMBERS];
@@ -136,7 +136,7 @@ pub fn body(
         &mut row[1..count],
         name,
     ) {
-        return Stepped::Fails(28);
+        return Err(ProofFault::NoUnnamedBody);
     }
     define(known, store, used, index, origin, numbers)
 }

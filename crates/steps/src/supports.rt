@@ -14,7 +14,7 @@ ghost use Rattle.heads.specs.Heads.{Indexed};
 ghost use Rattle.steps.specs.Held.{PassedLine, Program, Tracks, Fitted, Stepping};
 
 use crate::outcomes;
-use crate::outcomes::Stepped;
+use drupe::ProofFault;
 use names::queries;
 use names::queries::Query;
 use nogoods::store;
@@ -26,7 +26,7 @@ fn join(
     index: &mut [u32],
     origin: usize,
     numbers: &mut [i32],
-) -> Stepped
+) -> Result<usize, ProofFault>
     requires store { ((stored : List Stored) × Keeps store.old index.old used stored) × ((1 ≤ origin) × (origin ≤ widest)) }
     requires line { Literals numbers.old × (1 ≤ length numbers.old) × (length numbers.old ≤ most_numbers) }
     ensures { (stored : List Stored) → Keeps store.old index.old used stored
@@ -52,7 +52,7 @@ pub fn completion(
     index: &mut [u32],
     origin: usize,
     numbers: &mut [i32],
-) -> Stepped
+) -> Result<usize, ProofFault>
     requires program { ((ws : List InputRule) × HoldsRules table.now rules ws) × (rules ≤ length names.now) }
     requires index { Indexed lookup.now table.now rules }
     requires store { ((stored : List Stored) × Keeps store.old index.old used stored) × ((1 ≤ origin) × (origin ≤ widest)) }
@@ -63,11 +63,11 @@ pub fn completion(
         known.now names.now bodies.now store.new index.new result }
 {
     if !marks::all_marked(numbers, known) {
-        return Stepped::Fails(26);
+        return Err(ProofFault::UnknownVariable);
     }
     let name = words::variable_of(numbers[0]);
     if !heads::is_completed(table, rules, names, bodies, lookup, &numbers[1..], name) {
-        return Stepped::Fails(29);
+        return Err(ProofFault::NoCompletion);
     }
     join(store, used, index, origin, numbers)
 }
@@ -133,7 +133,7 @@ pub fn support(
     index: &mut [u32],
     origin: usize,
     numbers: &mut [i32],
-) -> Stepped
+) -> Result<usize, ProofFault>
     requires program { ((ws : List InputRule) × Program table.now rules atoms ws) × (rules ≤ length names.now) }
     requires index { Indexed lookup.now table.now rules }
     requires store { ((stored : List Stored) × Keeps store.old index.old used stored) × ((1 ≤ origin) × (origin ≤ widest)) }
@@ -144,10 +144,10 @@ pub fn support(
         known.now names.now bodies.now store.new index.new result }
 {
     if !marks::all_marked(numbers, known) {
-        return Stepped::Fails(26);
+        return Err(ProofFault::UnknownVariable);
     }
     if !is_supported(table, rules, lookup, atoms, names, bodies, numbers) {
-        return Stepped::Fails(30);
+        return Err(ProofFault::NoSupport);
     }
     join(store, used, index, origin, numbers)
 }

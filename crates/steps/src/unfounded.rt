@@ -16,8 +16,7 @@ ghost use Rattle.loops.specs.Relevance.{Relevant};
 ghost use Rattle.steps.specs.Held.{PassedLine, Program, Tracked, Above, LoopNogood, LoopAdded, gathered, Stepping};
 
 use crate::outcomes;
-use crate::outcomes::Stepped;
-use heads::Found;
+use drupe::ProofFault;
 use names::queries;
 use names::queries::Query;
 use nogoods::store;
@@ -49,10 +48,8 @@ fn gather(h: i32, found: &[u8], row: &mut [i32]) -> usize
 {
     let end = words::larger(words::extent(found), words::variable_of(h) + 1);
     let mut count = 0;
-    let mut v = 1;
-    while v < end {
+    for v in 1..end {
         count = gather_one(h, found, v, row, count);
-        v += 1;
     }
     count
 }
@@ -66,7 +63,7 @@ fn scan(
     h: i32,
     inside: &[u8],
     row: &mut [i32],
-) -> Found
+) -> Option<usize>
     requires program { ((ws : List InputRule) × HoldsRules table.now rules ws) × (rules ≤ length names.now) }
     requires row { (length row.old ≡ suc entries) × (variable h ≤ largest) }
     ensures { (ws : List InputRule) (called : List ℤ → ℕ) → Above table.now rules names.now bodies.now h ws called
@@ -83,9 +80,9 @@ fn scan(
         &mut found,
     );
     if marks::is_marked(&found, 0) {
-        return Found::Unnamed;
+        return None;
     }
-    Found::Names(gather(h, &found, row))
+    Some(gather(h, &found, row))
 }
 
 // The first atom and the complements of n names after it in the row.
@@ -108,7 +105,7 @@ fn look_up(
     numbers: &[i32],
     inside: &[u8],
     row: &mut [i32],
-) -> Found
+) -> Option<usize>
     requires state { (ws : List InputRule) × (called : List ℤ → ℕ)
         × Above table.now rules names.now bodies.now (get_or numbers.now 0 (pos 0)) ws called }
     requires index { Indexed lookup.now table.now rules × (covered lookup.now ≡ true) }
@@ -118,25 +115,20 @@ fn look_up(
         → Above table.now rules names.now bodies.now (get_or numbers.now 0 (pos 0)) ws called
         → LoopNogood (asked_names External inside.now called (expand ws)) (get_or numbers.now 0 (pos 0)) row.new result }
 {
-    let found = heads::external_names(table, rules, names, lookup, numbers, inside, &mut row[1..]);
-    match found {
-        Found::Names(n) => {
-            complete(numbers[0], row, n);
-            Found::Names(n + 1)
-        }
-        Found::Unnamed => Found::Unnamed,
-    }
+    let n = heads::external_names(table, rules, names, lookup, numbers, inside, &mut row[1..])?;
+    complete(numbers[0], row, n);
+    Some(n + 1)
 }
 
 // The nogood that was found is live, after the others; or some external body has no name.
 fn add_found(
-    found: Found,
+    found: Option<usize>,
     row: &[i32],
     store: &mut [i32],
     used: usize,
     index: &mut [u32],
     origin: usize,
-) -> Stepped
+) -> Result<usize, ProofFault>
     requires found { (l : List ℕ) × (h : ℤ) × LoopNogood l h row.now found }
     requires store { ((stored : List Stored) × Keeps store.old index.old used stored) × ((1 ≤ origin) × (origin ≤ widest)) }
     ensures { (l : List ℕ) (h : ℤ) → LoopNogood l h row.now found
@@ -144,10 +136,8 @@ fn add_found(
         → LoopAdded l h (length store.old) origin stored store.new index.new result }
 {
     match found {
-        Found::Unnamed => Stepped::Fails(32),
-        Found::Names(n) => {
-            outcomes::fitted(store::append(store, used, index, origin, &row[..n]))
-        }
+        None => Err(ProofFault::UnnamedBody),
+        Some(n) => { outcomes::fitted(store::append(store, used, index, origin, &row[..n])) }
     }
 }
 
@@ -164,7 +154,7 @@ fn add_by_index(
     used: usize,
     index: &mut [u32],
     origin: usize,
-) -> Stepped
+) -> Result<usize, ProofFault>
     requires state { (ws : List InputRule) × (called : List ℤ → ℕ)
         × Above table.now rules names.now bodies.now (get_or numbers.now 0 (pos 0)) ws called }
     requires index { Indexed lookup.now table.now rules × (covered lookup.now ≡ true) }
@@ -195,7 +185,7 @@ fn add_by_rules(
     used: usize,
     index: &mut [u32],
     origin: usize,
-) -> Stepped
+) -> Result<usize, ProofFault>
     requires state { ((ws : List InputRule) × (called : List ℤ → ℕ) × Above table.now rules names.now bodies.now h ws called)
         × (rules ≤ length names.now) × (variable h ≤ largest) }
     requires store { ((stored : List Stored) × Keeps store.old index.old used stored) × ((1 ≤ origin) × (origin ≤ widest)) }
@@ -223,7 +213,7 @@ fn add_nogood(
     used: usize,
     index: &mut [u32],
     origin: usize,
-) -> Stepped
+) -> Result<usize, ProofFault>
     requires state { (ws : List InputRule) × (called : List ℤ → ℕ)
         × Above table.now rules names.now bodies.now (get_or numbers.now 0 (pos 0)) ws called }
     requires index { Indexed lookup.now table.now rules }
@@ -261,7 +251,7 @@ pub fn loops(
     index: &mut [u32],
     origin: usize,
     numbers: &[i32],
-) -> Stepped
+) -> Result<usize, ProofFault>
     requires state { Tracked table.now rules atoms known.now names.now bodies.now }
     requires index { Indexed lookup.now table.now rules }
     requires relevant { Relevant relevant.now (rules_at rules table.now) }
@@ -273,13 +263,13 @@ pub fn loops(
         known.now names.now bodies.now store.new index.new result }
 {
     if !marks::all_marked(numbers, known) {
-        return Stepped::Fails(26);
+        return Err(ProofFault::UnknownVariable);
     }
     if atoms < words::largest_variable(numbers) {
-        return Stepped::Fails(31);
+        return Err(ProofFault::NoAtoms);
     }
     if !loops::is_loop(table, rules, lookup, relevant, numbers) {
-        return Stepped::Fails(56);
+        return Err(ProofFault::NoLoop);
     }
     let inside = marks::marks_of(numbers);
     add_nogood(

@@ -23,8 +23,8 @@ use Rattle.text.specs.declared.Letter.{Letter}
 use Rattle.text.specs.declared.Class.{Class}
 use Rattle.text.specs.declared.Class.TheVariants.{Newline, Space, Minus, Digit, Step, Other}
 use Rattle.text.specs.declared.Seen.{Seen}
-use Rattle.text.specs.declared.LineRead.{LineRead}
-use Rattle.text.specs.declared.LineRead.TheVariants.{Numbers, Broken}
+use Rattle.std.specs.Prelude.{Option as Answer, Some, None}
+use Rattle.text.specs.declared.LineNumbers.{LineNumbers}
 use Rattle.text.proofs.Lines.{Bounds, bounds}
 
 -- Words
@@ -191,10 +191,10 @@ apart-fails p (words w ws) e = rw e
 -- what the scan finds, with n numbers in the row, what was seen of them, and the position, against what is left of the line:
 -- a number at least
 abbrev Agrees : Scanned → ℕ → Seen → List ℤ → ℕ → Line → Type 0
-Agrees x n seen row i broken = x.line ≡ Broken
+Agrees x n seen row i broken = x.line ≡ None
 Agrees x n seen row i (numbers [] k) = ⊥
 Agrees x n seen row i (numbers (z ∷ zs) k) =
-    (x.line ≡ Numbers (n + length (z ∷ zs)) (i + k) (seen.outside || any_outside (z ∷ zs)) (not seen.nought && is_closed (z ∷ zs)))
+    (x.line ≡ Some (record { count = n + length (z ∷ zs); next = i + k; outside = seen.outside || any_outside (z ∷ zs); closed = not seen.nought && is_closed (z ∷ zs) }))
     × (x.row ≡ sets row n (map capped (z ∷ zs)))
 
 -- what is seen with the number z
@@ -277,12 +277,12 @@ scan-told (Digit d ∷ l) row = agrees-told _ row _ _ (joined-fresh (Digit d) (c
 scan-told (Step x ∷ l) row = agrees-told _ row _ _ (joined-fresh (Step x) (cut l)) (scanned (Step x ∷ l) fresh 0 unseen row 0)
 scan-told (Other ∷ l) row = agrees-told _ row _ _ (joined-fresh Other (cut l)) (scanned (Other ∷ l) fresh 0 unseen row 0)
 
-told-within : (l : Line) (n : ℕ) (row after : List ℤ) (r : LineRead) → LineTold l row after r → Bounds n l → LineBounds n r
+told-within : (l : Line) (n : ℕ) (row after : List ℤ) (r : Answer LineNumbers) → LineTold l row after r → Bounds n l → LineBounds n r
 told-within broken n row after r t b = rw t tt
 told-within (numbers zs k) n row after r t b = rw t.0 b
 
 -- what the scan from the beginning ends with is what `read_line` is to say
-pub reads : {s : List ℕ} {row after : List ℤ} {r : LineRead} → length after ≡ length row
+pub reads : {s : List ℕ} {row after : List ℤ} {r : Answer LineNumbers} → length after ≡ length row
     → scan (map class_of s) Start 0 unseen row 0 ≡ record { line = r; row = after } → LineScanned s row after r
 unfolding line_of
 reads {s} {row} {after} {r} k e =

@@ -1,33 +1,29 @@
 -- Laws on the bytes that a text starts with.
 -- Assumes nothing.
-use mathlib.Core.Path.{◌≡◌, sym}
-use mathlib.Core.Bool.{true, false, true≢false}
+use mathlib.Core.Path.{◌≡◌, refl, sym, ◌∙◌, ap₂}
+use mathlib.Core.Bool.{Bool, true, false, ◌&&◌, true≢false}
 use mathlib.Core.List.{List, [], ◌∷◌}
-use Prim.Native.Nat.{ℕ, ◌+◌, ◌≤◌, ◌<◌}
+use Prim.Native.Nat.{ℕ, ◌≤◌}
 use native.Mathlib.Omega.{arith}
-use native.Mathlib.Numerals.{add-one}
-use borrow.Author.Tests.{eq-eqb, ne_eqb}
+use borrow.Author.Tests.{eq-eqb, ne_eqb, eqb-true}
 use lib.Dec.{eqb}
-use lib.ListN.{length, drop, get_or, drop_of_length-le}
-use lib.Seq.{drop-cons}
+use lib.ListN.{length, take}
+use lib.Pointwise.{pointwise}
 use Rattle.text.specs.Strings.{starts_with}
 use Rattle.words.proofs.Lists.{and_right}
 
-module _ (front text : List ℕ) (i : ℕ) where
-  -- nothing is left of the front
-  pub front-end : length front ≤ i → starts_with (drop i front) (drop i text) ≡ true
-  front-end h = rw (drop_of_length-le front h)
+eqb_swap : (a b : ℕ) → eqb a b ≡ eqb b a
+eqb_swap a b = by (eqb a b) refl
+  where
+    by : (t : Bool) → eqb a b ≡ t → t ≡ eqb b a
+    by true e = sym (eq-eqb b a (sym (eqb-true a b e)))
+    by false e = sym (ne_eqb b a (λ h. true≢false (sym (eq-eqb a b (sym h)) ∙ e)))
 
-  module _ (h : i < length front) where
-    -- the text is at its end
-    pub front-short : length text ≤ i → starts_with (drop i front) (drop i text) ≡ false
-    front-short l = rw (drop_of_length-le text l, drop-cons front i 0 h)
-
-    pub front-on : i < length text → get_or text i 0 ≡ get_or front i 0 → starts_with (drop i front) (drop i text) ≡ starts_with (drop (i + 1) front) (drop (i + 1) text)
-    front-on l e = rw (add-one, drop-cons text i 0 l, drop-cons front i 0 h, eq-eqb (get_or text i 0) (get_or front i 0) e)
-
-    pub front-no : i < length text → (get_or text i 0 ≡ get_or front i 0 → ⊥) → starts_with (drop i front) (drop i text) ≡ false
-    front-no l e = rw (drop-cons text i 0 l, drop-cons front i 0 h, ne_eqb (get_or text i 0) (get_or front i 0) e)
+-- `starts_with` of two slices of bytes
+pub starts_with-is : (front text : List ℕ) → pointwise eqb front (take (length front) text) ≡ starts_with front text
+starts_with-is [] text = refl
+starts_with-is (x ∷ front) [] = refl
+starts_with-is (x ∷ front) (b ∷ text) = ap₂ (λ (s t : Bool). s && t) (eqb_swap x b) (starts_with-is front text)
 
 -- a text is as long as what it starts with
 pub front_long : (front text : List ℕ) → starts_with front text ≡ true → length front ≤ length text

@@ -16,8 +16,8 @@ use Rattle.text.specs.Line.{number, also, numbers_in, Words, unended, words, new
 use Rattle.text.specs.Scanned.{capped, LineTold, LineScanned}
 use Rattle.text.specs.declared.Class.{Class}
 use Rattle.text.specs.declared.Class.TheVariants.{Newline, Space, Minus, Digit, Step, Other}
-use Rattle.text.specs.declared.LineRead.{LineRead}
-use Rattle.text.specs.declared.LineRead.TheVariants.{Numbers, Broken}
+use Rattle.std.specs.Prelude.{Option as Answer, Some}
+use Rattle.text.specs.declared.LineNumbers.{LineNumbers}
 
 -- Sizes
 
@@ -111,20 +111,12 @@ pub record Numbered (s : List ℕ) (before after : List ℤ) (count next : ℕ) 
   pub shut : closed ≡ is_closed list
   pub row : after ≡ sets before 0 (map capped list)
 
-pub numbered : {s : List ℕ} {before after : List ℤ} {r : LineRead} {count next : ℕ} {out closed : Bool} → LineScanned s before after r → r ≡ Numbers count next out closed
-    → Numbered s before after count next out closed
-numbered {s} {before} {after} {r} {count} {next} {out} {closed} h e = by (line_of s) refl h.told
+pub numbered : {s : List ℕ} {before after : List ℤ} {r : Answer LineNumbers} {x : LineNumbers} → LineScanned s before after r → r ≡ Some x
+    → Numbered s before after x.count x.next x.outside x.closed
+numbered {s} {before} {after} {r} {x} h e = by (line_of s) refl h.told
   where
-    by : (l : Line) → line_of s ≡ l → LineTold l before after r → Numbered s before after count next out closed
+    by : (l : Line) → line_of s ≡ l → LineTold l before after r → Numbered s before after x.count x.next x.outside x.closed
     by broken q t = absurd (let z : ◌≡◌ {A = ℕ} 0 1 = cc in omega arith)
     by (numbers zs n) q t =
         let k = t.0 in
         record { list = zs; is = cc; long = cc; large = cc; shut = cc; row = t.1 }
-
--- of any other text
-pub not-numbered : {s : List ℕ} {before after : List ℤ} {r : LineRead} → LineScanned s before after r → r ≡ Broken → line_of s ≡ broken
-not-numbered {s} {before} {after} {r} h e = by (line_of s) refl h.told
-  where
-    by : (l : Line) → line_of s ≡ l → LineTold l before after r → line_of s ≡ broken
-    by broken q t = q
-    by (numbers zs n) q t = absurd (let k = t.0 in let z : ◌≡◌ {A = ℕ} 0 1 = cc in omega arith)

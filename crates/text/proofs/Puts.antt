@@ -2,7 +2,7 @@
 -- on, and how many there are.
 -- Assumes nothing.
 use mathlib.Core.Path.{◌≡◌, refl, sym, ◌∙◌, ap}
-use mathlib.Core.Bool.{Bool, true, false, cond, true≢false}
+use mathlib.Core.Bool.{Bool, true, false, cond}
 use mathlib.Core.List.{List, [], ◌∷◌, ◌++◌, map, append-nil, append_assoc, map-append}
 use Prim.Native.Nat.{ℕ, zero, suc, ◌+◌, ◌/◌, ◌%◌, ◌^◌, ◌<◌, ◌≤◌}
 use native.Mathlib.Nat.{div-add-mod', pow-suc}
@@ -11,7 +11,6 @@ use native.Mathlib.Omega.{arith}
 use borrow.Author.Tests.{ltb-true, ltb-false, lt-ltb, le-ltb}
 use lib.Dec.{ltb}
 use lib.IntN.{ℤ, pos, negsuc}
-use lib.Signed.{lt_z}
 use lib.ListN.{length, set, take, drop, get_or, length-append}
 use lib.Seq.{sets, sets-eq, take-suc, length-take-le}
 use mir.Syntax.{w32}
@@ -96,14 +95,6 @@ pub signed-bytes : (z : ℤ) → number_bytes z ≡ sign_bytes z ++ decimal (var
 unfolding number_bytes
 signed-bytes (pos m) = refl
 signed-bytes (negsuc m) = refl
-
-pub sign-minus : (z : ℤ) → lt_z z (pos 0) ≡ true → sign_bytes z ≡ 45 ∷ []
-sign-minus (pos m) e = absurd (omega (arith, ltb-true m 0 e))
-sign-minus (negsuc m) e = refl
-
-pub sign-none : (z : ℤ) → lt_z z (pos 0) ≡ false → sign_bytes z ≡ []
-sign-none (pos m) e = refl
-sign-none (negsuc m) e = absurd (true≢false e)
 
 pub sign-short : (z : ℤ) → length (sign_bytes z) ≤ 1
 sign-short (pos m) = omega arith

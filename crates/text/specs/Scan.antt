@@ -1,15 +1,14 @@
 -- A scanner byte by byte: a state, and what a byte does to it. The code reads a number at a time; what its functions say by this scanner
 -- serves the proof of `read_line` only: no reader of that contract needs it.
 -- Assumes nothing.
-use Rattle.std.specs.Prelude.{ℕ, ◌+◌, ◌*◌, ◌<◌, ◌≤◌, min, Bool, true, false, cond, not, ◌&&◌, ◌||◌, List, [], ◌∷◌, map, eqb, ltb, ℤ, pos, neg_ℤ, length, drop, get_or, set}
+use Rattle.std.specs.Prelude.{ℕ, ◌+◌, ◌*◌, ◌<◌, ◌≤◌, min, Bool, true, false, cond, not, ◌&&◌, ◌||◌, List, [], ◌∷◌, map, eqb, ltb, ℤ, pos, neg_ℤ, length, drop, get_or, set, Option, Some, None}
 use Rattle.words.specs.Limits.{largest, entries}
 use Rattle.text.specs.declared.Class.{Class}
 use Rattle.text.specs.declared.Class.TheVariants.{Newline, Space, Minus, Digit, Step, Other}
 use Rattle.text.specs.Bytes.{class_of}
 use Rattle.text.specs.declared.Number.{Number}
 use Rattle.text.specs.declared.Seen.{Seen}
-use Rattle.text.specs.declared.LineRead.{LineRead}
-use Rattle.text.specs.declared.LineRead.TheVariants.{Numbers, Broken}
+use Rattle.text.specs.declared.LineNumbers.{LineNumbers}
 
 -- what the bytes of a line so far have led to; of digits, whether after a minus, and the size that they make
 pub data State : Type 0 where
@@ -84,8 +83,8 @@ abbrev pub seeing : Seen → ℕ → Seen
 seeing seen m = record { outside = seen.outside || ltb largest m; nought = seen.nought || eqb m 0 }
 
 -- the line that ends with a number of size m
-abbrev pub end_of : Seen → ℕ → ℕ → ℕ → LineRead
-end_of seen m n i = Numbers n i (seen.outside || ltb largest m) (not seen.nought && eqb m 0)
+abbrev pub end_of : Seen → ℕ → ℕ → ℕ → LineNumbers
+end_of seen m n i = record { count = n; next = i; outside = seen.outside || ltb largest m; closed = not seen.nought && eqb m 0 }
 
 -- nothing was seen yet
 abbrev pub unseen : Seen
@@ -93,19 +92,19 @@ unseen = record { outside = false; nought = false }
 
 -- what is answered, and what the row holds
 pub record Scanned : Type 0 where
-  pub line : LineRead
+  pub line : Option LineNumbers
   pub row : List ℤ
 
 -- what an action does, with n numbers in the row so far, what was seen of them, and the position; f scans what is left
 unfoldable pub turn : (State → ℕ → Seen → List ℤ → ℕ → Scanned) → Action → ℕ → Seen → List ℤ → ℕ → Scanned
 turn f (Go st) n seen row i = f st n seen row (i + 1)
 turn f (Put neg m) n seen row i = f Word (n + 1) (seeing seen m) (set row n (value_of neg m)) (i + 1)
-turn f (Last neg m) n seen row i = record { line = end_of seen m (n + 1) (i + 1); row = set row n (value_of neg m) }
-turn f Empty n seen row i = record { line = Numbers 0 1 false false; row = row }
-turn f Fail n seen row i = record { line = Broken; row = row }
+turn f (Last neg m) n seen row i = record { line = Some (end_of seen m (n + 1) (i + 1)); row = set row n (value_of neg m) }
+turn f Empty n seen row i = record { line = Some (record { count = 0; next = 1; outside = false; closed = false }); row = row }
+turn f Fail n seen row i = record { line = None; row = row }
 
 unfoldable pub scan : List Class → State → ℕ → Seen → List ℤ → ℕ → Scanned
-scan [] st n seen row i = record { line = Broken; row = row }
+scan [] st n seen row i = record { line = None; row = row }
 scan (c ∷ s) st n seen row i = turn (scan s) (action_of st c) n seen row i
 
 -- Numbers, as the code goes from one to the next
@@ -147,13 +146,13 @@ abbrev pub after_sign : List ℕ → Bool → ℕ → Seen → List ℤ → ℕ 
 after_sign s neg n seen row i = acted s (beginning neg (class_from s i)) n seen row i
 
 -- what a number leads to
-abbrev pub after_number : List ℕ → Number → ℕ → Seen → List ℤ → Scanned
-after_number s (Number.Spaced neg m next) n seen row = scan_from s Word (n + 1) (seeing seen m) (set row n (value_of neg m)) next
-after_number s (Number.Last neg m next) n seen row = record { line = end_of seen m (n + 1) next; row = set row n (value_of neg m) }
-after_number s Number.Faulty n seen row = record { line = Broken; row = row }
+abbrev pub after_number : List ℕ → Option Number → ℕ → Seen → List ℤ → Scanned
+after_number s None n seen row = record { line = None; row = row }
+after_number s (Some x) n seen row =
+    cond x.last (record { line = Some (end_of seen x.size (n + 1) x.next); row = set row n (value_of x.negative x.size) })
+    (scan_from s Word (n + 1) (seeing seen x.size) (set row n (value_of x.negative x.size)) x.next)
 
 -- a number with its end takes a byte at least, within the text
-abbrev pub NumberBounds : ℕ → ℕ → Number → Type 0
-NumberBounds at end (Number.Spaced neg m next) = (at < next) × (next ≤ end)
-NumberBounds at end (Number.Last neg m next) = (at < next) × (next ≤ end)
-NumberBounds at end Number.Faulty = Unit {0}
+abbrev pub NumberBounds : ℕ → ℕ → Option Number → Type 0
+NumberBounds at end None = Unit {0}
+NumberBounds at end (Some x) = (at < x.next) × (x.next ≤ end)

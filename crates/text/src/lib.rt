@@ -35,17 +35,14 @@ pub enum Class {
     Other,
 }
 
-// The line that a text begins with. `next` is the number of bytes that it takes, its newline included; `outside` tells that
-// some number's size is above the largest variable, `closed` that the last number is 0 and no other is.
+// The numbers of the line that a text begins with. `next` is the number of bytes that it takes, its newline included;
+// `outside` tells that some number's size is above the largest variable, `closed` that the last number is 0 and no other is.
 #[derive(Drop)]
-pub enum LineRead {
-    Numbers {
-        count: usize,
-        next: usize,
-        outside: bool,
-        closed: bool,
-    },
-    Broken,
+pub struct LineNumbers {
+    pub count: usize,
+    pub next: usize,
+    pub outside: bool,
+    pub closed: bool,
 }
 
 // The digits from a position on: the size of the number that they end, and the position after them.
@@ -55,13 +52,13 @@ struct Digits {
     next: usize,
 }
 
-// What stands where a number is due: a number with a space or a newline behind it, negative or not, its size, and the position after that
-// byte; or no such thing.
+// A number with a space behind it, or with a newline where it is the line's last; `next` is the position after that byte.
 #[derive(Drop)]
-enum Number {
-    Spaced(bool, u16, usize),
-    Last(bool, u16, usize),
-    Faulty,
+struct Number {
+    negative: bool,
+    size: u16,
+    last: bool,
+    next: usize,
 }
 
 // Of the numbers so far: some size was above the largest variable, some number was 0.
@@ -73,15 +70,6 @@ struct Seen {
 
 // One past the largest variable. It stands for every larger size, so that no size wraps.
 const CAP: u16 = words::ENTRIES as u16;
-
-// Numbers of classes, as in the table of `classes`.
-const NEWLINE: u8 = 10;
-
-const SPACE: u8 = 11;
-
-const MINUS: u8 = 12;
-
-const OTHER: u8 = 20;
 
 // The class of a number in the table. The digits come first: most bytes are digits.
 fn class_at(number: u8) -> Class
@@ -105,41 +93,31 @@ fn class_at(number: u8) -> Class
     }
 }
 
-// The number of a byte's class, by the table.
-fn number_of(classes: &[u8; 256], b: u8) -> u8
-    requires { classes.now ≡ byte_classes }
-    ensures { class_at result ≡ class_of b }
-{
-    let i = b as usize;
-    classes[i]
-}
-
 // The class of a byte, by the table.
 pub fn class_of(classes: &[u8; 256], b: u8) -> Class
     requires { classes.now ≡ byte_classes }
     ensures { result ≡ class_of b }
 {
-    class_at(number_of(classes, b))
+    class_at(classes[usize::from(b)])
 }
 
 // One more digit, up to the cap.
 fn more(m: u16, d: u8) -> u16
     ensures { result ≡ more_of m d }
 {
-    let v = (m as u32) * 10 + d as u32;
-    if v <= CAP as u32 { v as u16 } else { CAP }
+    let v = u32::from(m) * 10 + u32::from(d);
+    v.min(u32::from(CAP)) as u16
 }
 
-// The number of the class of the byte at a position; the text's end counts as a byte of no number.
-fn class_number(text: &[u8], at: usize, classes: &[u8; 256]) -> u8
+// The class of the byte at a position; the text's end counts as a byte of no number.
+fn class_from(text: &[u8], at: usize, classes: &[u8; 256]) -> Class
     requires { classes.now ≡ byte_classes }
-    ensures class { class_at result ≡ class_from text.now at }
-    ensures within { result < 20 → at < length text.now }
+    ensures { result ≡ class_from text.now at }
 {
-    if at < text.len() {
-        return number_of(classes, text[at]);
+    match text.get(at) {
+        Some(b) => class_of(classes, *b),
+        None => Class::Other,
     }
-    OTHER
 }
 
 // The digits from a position on, after those that make m.
@@ -151,72 +129,76 @@ fn more_digits(text: &[u8], from: usize, m: u16, classes: &[u8; 256]) -> Digits
     ensures after { from ≤ result.next }
 {
     let mut size = m;
-    let mut i = from;
-    loop {
-        let d = class_number(text, i, classes);
-        if 9 < d {
-            return Digits { size, next: i };
+    for i in from..text.len() {
+        match class_of(classes, text[i]) {
+            Class::Digit(d) => size = more(size, d),
+            _ => return Digits { size, next: i },
         }
-        size = more(size, d);
-        i += 1;
+    }
+    Digits {
+        size,
+        next: from.max(text.len()),
     }
 }
 
 // The end of a number, all of whose digits are read.
-fn ended(text: &[u8], at: usize, neg: bool, m: u16, classes: &[u8; 256]) -> Number
+fn ended(text: &[u8], at: usize, negative: bool, size: u16, classes: &[u8; 256]) -> Option<Number>
     requires { classes.now ≡ byte_classes }
     ensures scanned { (n : ℕ) (seen : Seen) (row : List ℤ)
-        → after_digits text.now neg m n seen row at ≡ after_number text.now result n seen row }
+        → after_digits text.now negative size n seen row at ≡ after_number text.now result n seen row }
     ensures within { NumberBounds at (length text.now) result }
 {
-    let class = class_number(text, at, classes);
-    if class == SPACE {
-        return Number::Spaced(neg, m, at + 1);
-    }
-    if class == NEWLINE {
-        return Number::Last(neg, m, at + 1);
-    }
-    Number::Faulty
+    let last = match class_from(text, at, classes) {
+        Class::Space => false,
+        Class::Newline => true,
+        _ => return None,
+    };
+    Some(Number {
+        negative,
+        size,
+        last,
+        next: at + 1,
+    })
 }
 
-// A number from its first digit on; `neg`: after a minus.
-fn unsigned_at(text: &[u8], at: usize, neg: bool, classes: &[u8; 256]) -> Number
+// A number from its first digit on; `negative`: after a minus.
+fn unsigned_at(text: &[u8], at: usize, negative: bool, classes: &[u8; 256]) -> Option<Number>
     requires { classes.now ≡ byte_classes }
     ensures scanned { (n : ℕ) (seen : Seen) (row : List ℤ)
-        → after_sign text.now neg n seen row at ≡ after_number text.now result n seen row }
+        → after_sign text.now negative n seen row at ≡ after_number text.now result n seen row }
     ensures within { NumberBounds at (length text.now) result }
 {
-    let d = class_number(text, at, classes);
-    if 9 < d {
-        return Number::Faulty;
-    }
-    if neg & (d == 0) {
-        return Number::Faulty;
+    let Class::Digit(d) = class_from(text, at, classes) else {
+        return None;
+    };
+    if negative & (d == 0) {
+        return None;
     }
     if d == 0 {
         return ended(text, at + 1, false, 0, classes);
     }
     let digits = more_digits(text, at + 1, more(0, d), classes);
-    ended(text, digits.next, neg, digits.size, classes)
+    ended(text, digits.next, negative, digits.size, classes)
 }
 
 // A number with what ends it.
-fn number_at(text: &[u8], at: usize, classes: &[u8; 256]) -> Number
+fn number_at(text: &[u8], at: usize, classes: &[u8; 256]) -> Option<Number>
     requires { classes.now ≡ byte_classes }
     ensures scanned { (n : ℕ) (seen : Seen) (row : List ℤ)
         → scan_from text.now Word n seen row at ≡ after_number text.now result n seen row }
     ensures within { NumberBounds at (length text.now) result }
 {
-    if class_number(text, at, classes) == MINUS {
-        return unsigned_at(text, at + 1, true, classes);
+    match class_from(text, at, classes) {
+        Class::Minus => unsigned_at(text, at + 1, true, classes),
+        _ => unsigned_at(text, at, false, classes),
     }
-    unsigned_at(text, at, false, classes)
 }
 
-fn value(neg: bool, m: u16) -> i32
-    ensures { result ≡ value_of neg m }
+fn value(negative: bool, size: u16) -> i32
+    ensures { result ≡ value_of negative size }
 {
-    if neg { 0 - (m as i32) } else { m as i32 }
+    let positive = i32::from(size);
+    if negative { -positive } else { positive }
 }
 
 impl Seen {
@@ -231,10 +213,10 @@ impl Seen {
     }
 
     // The line that ends with a number of size m.
-    fn end(self, m: u16, count: usize, next: usize) -> LineRead
+    fn end(self, m: u16, count: usize, next: usize) -> LineNumbers
         ensures { result ≡ end_of self m count next }
     {
-        LineRead::Numbers {
+        LineNumbers {
             count,
             next,
             outside: self.outside | (m >= CAP),
@@ -244,24 +226,25 @@ impl Seen {
 }
 
 // A store past the end changes nothing.
-fn store(row: &mut [i32], n: usize, neg: bool, m: u16)
-    ensures { row.new ≡ set row.old n (value_of neg m) }
+fn store(row: &mut [i32], n: usize, negative: bool, size: u16)
+    ensures { row.new ≡ set row.old n (value_of negative size) }
 {
-    words::put_word(row, n, value(neg, m));
+    words::put_word(row, n, value(negative, size));
 }
 
-// The numbers of the line that the text begins with, into the row, as many as fit.
-pub fn read_line(text: &[u8], row: &mut [i32], classes: &[u8; 256]) -> LineRead
+// The numbers of the line that the text begins with, into the row, as many as fit; `None` where it begins with no line of
+// numbers.
+pub fn read_line(text: &[u8], row: &mut [i32], classes: &[u8; 256]) -> Option<LineNumbers>
     requires { classes.now ≡ byte_classes }
     ensures { LineScanned text.now row.old row.new result }
 {
-    if class_number(text, 0, classes) == NEWLINE {
-        return LineRead::Numbers {
+    if let Class::Newline = class_from(text, 0, classes) {
+        return Some(LineNumbers {
             count: 0,
             next: 1,
             outside: false,
             closed: false,
-        };
+        });
     }
     let mut count: usize = 0;
     let mut seen = Seen {
@@ -270,20 +253,14 @@ pub fn read_line(text: &[u8], row: &mut [i32], classes: &[u8; 256]) -> LineRead
     };
     let mut i: usize = 0;
     loop {
-        let number = number_at(text, i, classes);
-        match number {
-            Number::Spaced(neg, m, next) => {
-                store(row, count, neg, m);
-                seen = seen.with(m);
-                count += 1;
-                i = next;
-            }
-            Number::Last(neg, m, next) => {
-                store(row, count, neg, m);
-                return seen.end(m, count + 1, next);
-            }
-            Number::Faulty => return LineRead::Broken,
+        let number = number_at(text, i, classes)?;
+        store(row, count, number.negative, number.size);
+        count += 1;
+        if number.last {
+            return Some(seen.end(number.size, count, number.next));
         }
+        seen = seen.with(number.size);
+        i = number.next;
     }
 }
 
@@ -291,15 +268,5 @@ pub fn read_line(text: &[u8], row: &mut [i32], classes: &[u8; 256]) -> LineRead
 pub fn starts_with(text: &[u8], front: &[u8]) -> bool
     ensures { result ≡ starts_with front.now text.now }
 {
-    let mut i = 0;
-    while i < front.len() {
-        if text.len() <= i {
-            return false;
-        }
-        if text[i] != front[i] {
-            return false;
-        }
-        i += 1;
-    }
-    true
+    text.starts_with(front)
 }

@@ -22,12 +22,10 @@ pub fn put_bytes(buffer: &mut [u8], at: usize, bytes: &[u8]) -> usize
     requires { at + length bytes.now ≤ farthest }
     ensures { Put bytes.now buffer.old buffer.new at result }
 {
-    let mut i = 0;
-    while i < bytes.len() {
+    for i in 0..bytes.len() {
         put(buffer, at + i, bytes[i]);
-        i += 1;
     }
-    at + i
+    at + bytes.len()
 }
 
 // One digit.

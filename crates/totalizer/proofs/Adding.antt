@@ -41,7 +41,6 @@ over-sums b k (x ∷ l) = ap (further b x.weight) (over-sums b k l)
 
 -- where the loop stands
 pub record Adding (ws : List ℤ) (b : ℕ) (us sums₀ spare₀ sums spare : List ℕ) (left count : ℕ) : Type 0 where
-  pub few : 2 * left ≤ length ws
   pub within : count ≤ length sums
   pub is : take count sums ≡ sums_over b us (paired (drop (2 * left) ws))
   pub long : length sums ≡ length sums₀
@@ -52,23 +51,22 @@ unfolding sums_over
 adding-start ws b n sums spare h =
     let d = div-add-mod' (length ws) 2 in
     record {
-      few = omega arith;
       within = h;
       is = rw (pair-none ws (2 * (length ws / 2)) (omega arith));
       long = refl;
       spare-long = refl;
     }
 
-pub adding-on : {ws : List ℤ} {b : ℕ} {us sums₀ spare₀ sums spare : List ℕ} {left count : ℕ} → Adding ws b us sums₀ spare₀ sums spare left count → 0 < left
+pub adding-on : {ws : List ℤ} {b : ℕ} {us sums₀ spare₀ sums spare : List ℕ} {left count : ℕ} → Adding ws b us sums₀ spare₀ sums spare left count → 0 < left → left ≤ length ws / 2
     → {w r : ℕ} {sums' spare' : List ℕ} → w ≡ variable (get_or ws (2 * (left - 1) + 1) (pos 0)) → r ≤ length sums' → take r sums' ≡ further b w (take count sums)
     → length sums' ≡ length sums → length spare' ≡ length spare → Adding ws b us sums₀ spare₀ sums' spare' (left - 1) r
 unfolding sums_over
-adding-on {ws} {b} {us} {left = left} A h {w} {r} {sums'} ew k e l s =
+adding-on {ws} {b} {us} {left = left} A h few {w} {r} {sums'} ew k e l s =
     let i = 2 * (left - 1) in
     let n : i + 2 ≡ 2 * left = omega arith in
-    let p = pair-on ws i (omega (arith, A.few)) in
+    let d = div-add-mod' (length ws) 2 in
+    let p = pair-on ws i (omega arith) in
     record {
-      few = omega (arith, A.few);
       within = k;
       is = e ∙ rw (A.is, ew, p, n);
       long = l ∙ A.long;

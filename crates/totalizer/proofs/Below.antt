@@ -1,16 +1,20 @@
 -- The first number of an ascending list that is at least another, and levels that make a difference. Assumes nothing.
 use mathlib.Core.Path.{◌≡◌, refl, sym, ap, subst, ◌∙◌}
-use mathlib.Core.Bool.{Bool, true, false, cond}
+use mathlib.Core.Bool.{Bool, true, false, cond, not}
 use mathlib.Core.List.Memᴰ
 use mathlib.Core.List.{List, [], ◌∷◌, ◌++◌, append-nil}
 use mathlib.Core.Logic.{◌⊎◌, inl, inr}
 use Prim.Native.Nat.{ℕ, zero, suc, ◌+◌, ◌-◌, ◌≤◌, ◌<◌}
 use native.Mathlib.Numerals.{add-one}
 use native.Mathlib.Omega.{arith}
-use borrow.Author.Tests.{lt-ltb, le-ltb, ltb-true, ltb-false}
-use lib.Dec.{ltb}
-use lib.ListN.{length, take, drop, get_or, set, length-set, drop_of_length-le}
-use lib.Seq.{drop-cons, take-suc, take-suc-set, take-set-le}
+use borrow.Author.Tests.{ltb-true, ltb-false, leb-true, leb-false}
+use lib.Dec.{leb, ltb}
+use lib.ListN.{length, take, get_or, set, length-set}
+use lib.Seq.{take-suc, take-suc-set, take-set-le}
+use Rattle.std.specs.Prelude.{Option, Some, None, position}
+use Rattle.std.specs.List.{prefix_len}
+use Rattle.std.proofs.lemmas.List.Sums.{prefix_len-le-length}
+use Rattle.std.specs.Option.{unwrap_or}
 use Rattle.words.specs.Lists.{◌∈◌, filter}
 use Rattle.words.proofs.Lists.{by-test, Decides, failed, is_true, same_test, leb-decides, and-decides, or-decides, not-decides, any-decides, all-decides, one_less}
 use Rattle.weights.proofs.Minimal.{ltb-decides}
@@ -19,18 +23,23 @@ use Rattle.sums.specs.Levels.{Ascending, is_useful}
 use Rattle.sums.proofs.Attained.{ascending-low}
 use Rattle.totalizer.specs.Lists.{SumsUpTo, below}
 
--- one number more, or none
-pub below_on : (need : ℕ) (us : List ℕ) (i : ℕ) → i < length us → get_or us i 0 < need → i + below need (drop i us) ≡ i + 1 + below need (drop (i + 1) us)
+-- as the search says it
+below-before : (need : ℕ) (us : List ℕ) → prefix_len (λ u. not (leb need u)) us ≡ below need us
 unfolding below
-below_on need us i h k = let e : i + 1 ≡ suc i = omega arith in rw (e, drop-cons us i 0 h, lt-ltb (get_or us i 0) need k) (omega arith)
+below-before need [] = refl
+below-before need (u ∷ us) = on (leb need u) (ltb u need) refl refl (below-before need us)
+  where
+    on : (s t : Bool) → leb need u ≡ s → ltb u need ≡ t → {p q : ℕ} → p ≡ q → cond (not s) (1 + p) 0 ≡ cond t (suc q) 0
+    on true true e f r = absurd (let k = leb-true need u e in let l = ltb-true u need f in omega arith)
+    on true false e f r = refl
+    on false true e f r = omega arith
+    on false false e f r = absurd (let k = leb-false need u e in let l = ltb-false u need f in omega arith)
 
-pub below-here : (need : ℕ) (us : List ℕ) (i : ℕ) → i < length us → need ≤ get_or us i 0 → below need (drop i us) ≡ 0
-unfolding below
-below-here need us i h k = rw (drop-cons us i 0 h, le-ltb (get_or us i 0) need k)
-
-pub below_end : (need : ℕ) (us : List ℕ) (i : ℕ) → length us ≤ i → below need (drop i us) ≡ 0
-unfolding below
-below_end need us i h = rw (drop_of_length-le us {i = i} h)
+pub below-found : (need : ℕ) (us : List ℕ) → unwrap_or (position (λ u. leb need u) us) (length us) ≡ below need us
+below-found need us = by (prefix_len (λ u. not (leb need u)) us) (prefix_len-le-length (λ u. not (leb need u)) us) ∙ below-before need us
+  where
+    by : (p : ℕ) → p ≤ length us → unwrap_or (cond (ltb p (length us)) (Some p) None) (length us) ≡ p
+    by p k = by-test (λ (o : Option ℕ). unwrap_or o (length us) ≡ p) (ltb p (length us)) (λ e. refl) (λ e. let h = ltb-false p (length us) e in omega arith)
 
 pub below-within : (need : ℕ) (us : List ℕ) → below need us ≤ length us
 unfolding below
@@ -172,7 +181,6 @@ keep-more f us i h = rw (add-one, take-suc us i 0 h) (on (take i us) (get_or us 
 
 -- where the loop stands that writes them
 pub record Keeping (f : ℕ → Bool) (us levels₀ levels : List ℕ) (i k : ℕ) : Type 0 where
-  pub here : i ≤ length us
   pub fewer : k ≤ i
   pub kept : take k levels ≡ filter f (take i us)
   pub long : length levels ≡ length levels₀
@@ -186,13 +194,11 @@ keeping-on {f} {us} {levels₀} {levels} {i} {k} K h room {t} {next} et en = by 
 
     by : (t : Bool) → t ≡ f (get_or us i 0) → next ≡ cond t (k + 1) k → Keeping f us levels₀ (set levels k (get_or us i 0)) (i + 1) next
     by true e n = record {
-      here = omega arith;
       fewer = omega (arith, K.fewer, n);
       kept = rw (n, add-one, take-suc-set levels k (get_or us i 0) place, K.kept, keep-more f us i h, ← e);
       long = length-set levels k (get_or us i 0) ∙ K.long;
     }
     by false e n = record {
-      here = omega arith;
       fewer = omega (arith, K.fewer, n);
       kept = rw (n, take-set-le k levels k (get_or us i 0) (omega arith), K.kept, keep-more f us i h, ← e, append-nil (filter f (take i us)));
       long = length-set levels k (get_or us i 0) ∙ K.long;

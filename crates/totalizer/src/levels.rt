@@ -1,6 +1,6 @@
 // What the weights of some literals can add up to, and which of these sums make a difference: `sums_of` and
 // `levels_for` of crates/sums/specs/Levels.antt. A list of sums ascends, and none is above the bound.
-ghost use Rattle.std.specs.Prelude.{◌≡◌, true, cond, suc, ◌+◌, ◌*◌, ◌-◌, ◌<◌, ◌≤◌, min, length, take, drop, get_or, ◌++◌};
+ghost use Rattle.std.specs.Prelude.{◌≡◌, true, cond, suc, ◌+◌, ◌*◌, ◌-◌, ◌<◌, ◌≤◌, min, length, take, drop, get_or, ◌++◌, leb, position};
 ghost use Rattle.weights.specs.Weights.{most_weight};
 ghost use Rattle.weights.specs.Weights.{paired};
 ghost use Rattle.aspif.specs.Reading.{all_weights};
@@ -11,14 +11,17 @@ ghost use Rattle.totalizer.specs.Lists.{SumsUpTo, head_or, sums_over, below};
 pub fn smaller(a: usize, b: usize) -> usize
     ensures { result ≡ min a b }
 {
-    if a < b { a } else { b }
+    a.min(b)
 }
 
 // Sum i; `past` past the end.
 pub fn sum_at(sums: &[usize], i: usize, past: usize) -> usize
     ensures { result ≡ get_or sums.now i past }
 {
-    if i < sums.len() { sums[i] } else { past }
+    match sums.get(i) {
+        Some(sum) => *sum,
+        None => past,
+    }
 }
 
 // Sum j with the weight more, the bound at most; one above the bound past the end.
@@ -47,6 +50,7 @@ fn add_weight(sums: &[usize], weight: usize, bound: usize, to: &mut [usize]) -> 
     ensures within { result ≤ length to.new }
     ensures sums { take result to.new ≡ further bound weight sums.now }
 {
+    // A merge: either place moves on as its sum is taken, so that a chain is no plainer.
     let mut i = 0;
     let mut j = 0;
     let mut k = 0;
@@ -68,11 +72,8 @@ pub fn copy_sums(destination: &mut [usize], source: &[usize])
     ensures { destination.new ≡ source.now
         ++ drop (length source.now) destination.old }
 {
-    let mut i = 0;
-    while i < source.len() {
-        destination[i] = source[i];
-        i += 1;
-    }
+    let n = source.len();
+    destination[..n].copy_from_slice(source);
 }
 
 // The sums, of which there are n, with a literal of that weight more.
@@ -107,28 +108,26 @@ fn add_pairs(
     ensures within { result ≤ length sums.new }
     ensures sums { take result sums.new ≡ sums_over bound (take n sums.old) (paired pairs.now) }
 {
-    let mut left = pairs.len() / 2;
     let mut count = n;
-    while 0 < left {
-        left -= 1;
+    for left in (0..pairs.len() / 2).rev() {
         let weight = words::variable_of(pairs[2 * left + 1]);
         count = add_literal(sums, count, weight, bound, spare);
     }
     count
 }
 
+// The place of the first sum that is at least `need`.
+fn first_reaching(sums: &[usize], need: usize) -> Option<usize>
+    ensures { result ≡ position (λ u. leb need u) sums.now }
+{
+    sums.iter().position(|sum| need <= *sum)
+}
+
 // How many sums stand before the first that is at least `need`.
 pub fn below_of(sums: &[usize], need: usize) -> usize
     ensures { result ≡ below need sums.now }
 {
-    let mut i = 0;
-    while i < sums.len() {
-        if need <= sums[i] {
-            return i;
-        }
-        i += 1;
-    }
-    i
+    first_reaching(sums, need).unwrap_or(sums.len())
 }
 
 // Sum i makes a difference: beside the lowest sum of the others with which it reaches the bound, the sum before it does
@@ -159,12 +158,10 @@ fn useful_levels(inside: &[usize], outside: &[usize], bound: usize, levels: &mut
     ensures within { result ≤ length levels.new }
     ensures levels { take result levels.new ≡ useful bound outside.now inside.now }
 {
-    let mut i = 0;
     let mut k = 0;
-    while i < inside.len() {
+    for i in 0..inside.len() {
         levels[k] = inside[i];
         k = after_if(is_useful(inside, i, outside, bound), k, k + 1);
-        i += 1;
     }
     k
 }

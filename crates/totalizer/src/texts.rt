@@ -29,11 +29,9 @@ fn put_numbers(output: &mut [u8], at: usize, numbers: &[i32]) -> usize
     ensures written { Put (spaced numbers.now) output.old output.new at result }
     ensures within { result ≤ at + 22 * length numbers.now }
 {
-    let mut i = 0;
     let mut end = at;
-    while i < numbers.len() {
-        end = writing::put_number(output, end, numbers[i]);
-        i += 1;
+    for number in numbers {
+        end = writing::put_number(output, end, *number);
     }
     end
 }
@@ -71,6 +69,8 @@ pub fn emit(output: &mut [u8], place: Place, numbers: &[i32]) -> Place
         rules: place.rules + 1,
     }
 }
+
+// Rules are given by their words: one with a long sum, whose heads `put_head` writes, is no `tables::Rule` (`sound_at`).
 
 // The bound of a rule with a weight body, of the rule at the front of some words.
 fn put_bound(output: &mut [u8], at: usize, words: &[i32]) -> usize
@@ -209,10 +209,8 @@ pub fn emit_group(
         output.old output.new place result }
 {
     let mut here = place;
-    let mut i = 0;
-    while i < levels.len() {
-        here = emit_sum(output, here, atom + i, levels[i], pairs);
-        i += 1;
+    for (i, level) in levels.iter().enumerate() {
+        here = emit_sum(output, here, atom + i, *level, pairs);
     }
     here
 }

@@ -13,8 +13,7 @@ use Rattle.words.proofs.Lists.{and_left, and_right}
 use Rattle.text.specs.Writing.{Put}
 use Rattle.aspif.specs.Rules.{InputRule, expand, atoms}
 use Rattle.aspif.specs.Reading.{Reading, program, read_text, program_answer, table_of}
-use Rattle.aspif.specs.declared.ProgramReading.{ProgramReading}
-use Rattle.aspif.specs.declared.ProgramReading.TheVariants as Answer
+use Rattle.aspif.specs.declared.ProgramCounts.{ProgramCounts}
 use Rattle.aspif.specs.declared.ProgramRefusal.{ProgramRefusal}
 use Rattle.words.proofs.Laws.{drop-replicate}
 use Rattle.runs.specs.Course.{course, is_accepted}
@@ -22,12 +21,15 @@ use Rattle.checker.specs.Check.{judged, is_inconsistent}
 use Rattle.checker.specs.declared.Verdict.{Verdict}
 use Rattle.checker.proofs.Verdicts.{verdict-empty, unread}
 use Rattle.splits.specs.Service.{leaves_nothing}
-use Rattle.splits.specs.declared.MergeAnswer.TheVariants.{Merged, RefusedProgram, Refused}
 use Rattle.splits.proofs.Answers.{found-inconsistent}
 use Rattle.shapes.specs.Tree.{Shape, Parsed, bad, found, tree_of, most_splits, leaves, sum, ends, matches}
 use Rattle.shapes.specs.Walks.{is_tree}
 use Rattle.trees.specs.Service.{tree_outcome, written_tree, parsed_tree, tree_reading, merge_tree}
 use Rattle.trees.specs.Sides.{Subtree, pending}
+use Rattle.std.specs.Prelude.{Result, Err, Ok}
+use Rattle.splits.specs.declared.MergeFault.TheVariants.{NotWritable, NoTree}
+use Rattle.splits.specs.declared.MergeFault.{MergeFault}
+use Rattle.aspif.specs.declared.Refusal.TheVariants.{Program, Service}
 
 -- A text put at the front of a buffer
 
@@ -43,23 +45,23 @@ put-blank text before after {next} p z h =
 
 -- The last check
 
-module _ (t s o : ℕ) (ws : List InputRule) (text : List ℕ) (number : ℕ) {v : Verdict} {table store : List ℤ}
+module _ (t s o : ℕ) (ws : List InputRule) (text : List ℕ) (fault : MergeFault) {v : Verdict} {table store : List ℤ}
     (e : record { verdict = v; table = table; store = store } ≡ judged t s ws (course (atoms ws) (expand ws) s text)) where
   verdict-is : is_inconsistent v ≡ is_accepted s ws text
   verdict-is = verdict-empty t s ws (course (atoms ws) (expand ws) s text) e
 
-  pub last-refused : is_inconsistent v ≡ false → leaves_nothing t s o (Refused number) ≡ written_tree t s o ws (pending s ws text number)
+  pub last-refused : is_inconsistent v ≡ false → leaves_nothing t s o (Err (Service fault)) ≡ written_tree t s o ws (pending s ws text fault)
   last-refused i = let a : is_accepted s ws text ≡ false = sym verdict-is ∙ i in rw a refl
 
   module _ (i : is_inconsistent v ≡ true) where
     accepted : is_accepted s ws text ≡ true
     accepted = sym verdict-is ∙ i
 
-    pub over-output : o < length text → leaves_nothing t s o (Refused 58) ≡ written_tree t s o ws (pending s ws text number)
+    pub over-output : o < length text → leaves_nothing t s o (Err (Service NotWritable)) ≡ written_tree t s o ws (pending s ws text fault)
     over-output h = rw (accepted, lt-leb (length text) o h) refl
 
     pub written_out : length text ≤ o → {m : ℕ} {output : List ℕ} → m ≡ length text → output ≡ text ++ replicate (o - m) 0
-        → record { answer = Merged m; table = table; store = store; output = output } ≡ written_tree t s o ws (pending s ws text number)
+        → record { answer = Ok m; table = table; store = store; output = output } ≡ written_tree t s o ws (pending s ws text fault)
     written_out h l p =
         found-inconsistent t s o ws text (course (atoms ws) (expand ws) s text) e i l p
         ∙ rw (accepted, le-leb (length text) o h) refl
@@ -87,10 +89,10 @@ module _ (N : ℕ) (tree texts lengths : List ℕ) where
       record { path = []; parsed = F.parsed; enough = omega (arith, c); added = eqb-true (sum lengths) (length texts) F.summed }
 
   module _ (t s o : ℕ) (ws : List InputRule) (top : N ≡ atoms ws) where
-    pub no-tree : is_tree (tree_of most_splits [] N tree) (length texts) lengths ≡ false → leaves_nothing t s o (Refused 64) ≡ tree_reading t s o tree texts lengths (program ws)
-    no-tree q = subst (λ (M : ℕ). leaves_nothing t s o (Refused 64) ≡ parsed_tree t s o ws texts lengths (tree_of most_splits [] M tree)) top (by (tree_of most_splits [] N tree) q)
+    pub no-tree : is_tree (tree_of most_splits [] N tree) (length texts) lengths ≡ false → leaves_nothing t s o (Err (Service NoTree)) ≡ tree_reading t s o tree texts lengths (program ws)
+    no-tree q = subst (λ (M : ℕ). leaves_nothing t s o (Err (Service NoTree)) ≡ parsed_tree t s o ws texts lengths (tree_of most_splits [] M tree)) top (by (tree_of most_splits [] N tree) q)
       where
-        by : (p : Parsed) → is_tree p (length texts) lengths ≡ false → leaves_nothing t s o (Refused 64) ≡ parsed_tree t s o ws texts lengths p
+        by : (p : Parsed) → is_tree p (length texts) lengths ≡ false → leaves_nothing t s o (Err (Service NoTree)) ≡ parsed_tree t s o ws texts lengths p
         by bad q = refl
         by (found u (n ∷ ns)) q = refl
         by (found u []) q = let m : matches u texts lengths ≡ false = q in rw m refl
@@ -103,12 +105,12 @@ module _ (N : ℕ) (tree texts lengths : List ℕ) where
 
 -- The program
 
-module _ (t s o : ℕ) (text tree texts lengths : List ℕ) {r : ProgramReading} (answer : r ≡ program_answer (read_text t text)) {table : List ℤ} (words : table ≡ table_of t (read_text t text)) where
-  pub unread-tree : (x : ProgramRefusal) {store : List ℤ} {output : List ℕ} → r ≡ Answer.Refused x → store ≡ replicate s (pos 0) → output ≡ replicate o 0
-      → record { answer = RefusedProgram x; table = table; store = store; output = output } ≡ merge_tree t s o text tree texts lengths
+module _ (t s o : ℕ) (text tree texts lengths : List ℕ) {r : Result ProgramCounts ProgramRefusal} (answer : r ≡ program_answer (read_text t text)) {table : List ℤ} (words : table ≡ table_of t (read_text t text)) where
+  pub unread-tree : (x : ProgramRefusal) {store : List ℤ} {output : List ℕ} → r ≡ Err x → store ≡ replicate s (pos 0) → output ≡ replicate o 0
+      → record { answer = Err (Program x); table = table; store = store; output = output } ≡ merge_tree t s o text tree texts lengths
   unfolding merge_tree
   unread-tree x {store} {output} e z y =
-      unread t text answer words (tree_reading t s o tree texts lengths) (λ q l. record { answer = RefusedProgram q; table = l; store = store; output = output }) (λ k n. rw (z, y) refl) x e
+      unread t text answer words (tree_reading t s o tree texts lengths) (λ q l. record { answer = Err (Program q); table = l; store = store; output = output }) (λ k n. rw (z, y) refl) x e
 
   pub tree-read : (ws : List InputRule) → read_text t text ≡ program ws → tree_reading t s o tree texts lengths (program ws) ≡ merge_tree t s o text tree texts lengths
   unfolding merge_tree

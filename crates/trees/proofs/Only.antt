@@ -12,10 +12,8 @@ use Rattle.drupe.specs.Texts.{Step, text_of}
 use Rattle.derivation.specs.States.{is_atom}
 use Rattle.runs.specs.Course.{stopped, course, ends_empty, is_accepted}
 use Rattle.merging.specs.Claims.{demanding_as_written}
-use Rattle.splits.specs.Service.{are_halves, merged_steps, is_writable, MergeLeft}
+use Rattle.splits.specs.Service.{are_halves, merged_steps, is_writable, MergeLeft, MergeAnswer}
 use Rattle.splits.specs.Claims.{PastStore}
-use Rattle.splits.specs.declared.MergeAnswer.{MergeAnswer}
-use Rattle.splits.specs.declared.MergeAnswer.TheVariants.{Merged}
 use Rattle.splits.proofs.OverTexts.{merged-ends}
 use Rattle.splits.proofs.Exactly.{accepted-written, writable-short}
 use Rattle.shapes.specs.Tree.{Shape, end, split, found, tree_of, most_splits, leaves, ends}
@@ -24,6 +22,10 @@ use Rattle.trees.specs.Claims.{tree_text, FitsAll, TreeOnly}
 use Rattle.trees.proofs.OverTrees.{at_split, fits-outcome, IsMerged, judged-tree}
 use Rattle.trees.proofs.OneTree.{below}
 use Rattle.trees.proofs.Subtrees.{Begins, begins}
+use Rattle.drupe.specs.declared.ProofFault.TheVariants as Fault
+use Rattle.splits.specs.declared.MergeFault.TheVariants.{NotAccepted, NotWritable, StoreFull}
+use Rattle.splits.specs.declared.MergeFault.{MergeFault}
+use Rattle.std.specs.Prelude.{Ok}
 
 -- Each split is on an atom
 
@@ -76,7 +78,7 @@ module _ (s o : ℕ) (ws : List InputRule) (v : ℕ) (F S : List ℕ) (halves : 
   ts = merged_steps ws v F S
 
   either : ((¬ (PastStore s ws ts)) × (is_accepted s ws (text_of ts) ≡ true))
-      ⊎ (PastStore s ws ts × ((n : ℕ) × (course (atoms ws) (expand ws) s (text_of ts) ≡ stopped 34 n)))
+      ⊎ (PastStore s ws ts × ((n : ℕ) × (course (atoms ws) (expand ws) s (text_of ts) ≡ stopped Fault.StoreFull n)))
   either = let short = writable-short o ts w in (merged-ends s ws v F S halves short.0 short.1).1.1
 
   pub keeps-to-store : is_accepted s ws (text_of ts) ≡ true → ¬ (PastStore s ws ts)
@@ -95,7 +97,7 @@ abbrev IsText : Side → Type 0
 IsText (fails k) = ⊥
 IsText (gives text) = Unit {0}
 
-failed-text : {k : ℕ} {text : List ℕ} → fails k ≡ gives text → ⊥
+failed-text : {k : MergeFault} {text : List ℕ} → fails k ≡ gives text → ⊥
 failed-text e = subst IsText (sym e) tt
 
 module _ (s o : ℕ) where
@@ -106,7 +108,7 @@ module _ (s o : ℕ) where
   unfolding tree_outcome
   end_fits ws texts text e = by (is_accepted s ws (first_end texts)) refl e
     where
-      by : (b : Bool) → is_accepted s ws (first_end texts) ≡ b → cond b (gives (first_end texts)) (fails 57) ≡ gives text → Goal ws end texts text
+      by : (b : Bool) → is_accepted s ws (first_end texts) ≡ b → cond b (gives (first_end texts)) (fails NotAccepted) ≡ gives text → Goal ws end texts text
       by true a e = (a, sym (ap text_in e))
       by false a e = absurd (failed-text e)
 
@@ -116,7 +118,7 @@ module _ (s o : ℕ) where
   merge-fits ws v F S text halves e = by (is_writable o (merged_steps ws v F S)) refl (is_accepted s ws (text_of (merged_steps ws v F S))) refl e
     where
       by : (w : Bool) → is_writable o (merged_steps ws v F S) ≡ w → (a : Bool) → is_accepted s ws (text_of (merged_steps ws v F S)) ≡ a
-          → cond w (cond a (gives (text_of (merged_steps ws v F S))) (fails 59)) (fails 58) ≡ gives text
+          → cond w (cond a (gives (text_of (merged_steps ws v F S))) (fails StoreFull)) (fails NotWritable) ≡ gives text
           → (is_writable o (merged_steps ws v F S) ≡ true) × (¬ (PastStore s ws (merged_steps ws v F S))) × (text ≡ text_of (merged_steps ws v F S))
       by true w true a e = (w, keeps-to-store s o ws v F S halves w a, sym (ap text_in e))
       by true w false a e = absurd (failed-text e)
@@ -164,7 +166,7 @@ tree-only text tree texts lengths table store table' store' output output' n e =
     let good : is_accepted (length store) J.rules p.text ≡ true =
     ap (is_accepted (length store) J.rules) F.1 ∙ (fits-outcome (length store) (length output) J.rules p.shape all F.0).1 in
     let w = accepted-written (length table) (length store) (length output) J.rules p.text (course (atoms J.rules) (expand J.rules) (length store) p.text) good in
-    let a : ◌≡◌ {A = MergeAnswer} (Merged n) (Merged (length p.text)) = ap (λ (x : MergeLeft). x.answer) (e ∙ J.judging) ∙ w.0 in
+    let a : ◌≡◌ {A = MergeAnswer} (Ok n) (Ok (length p.text)) = ap (λ (x : MergeLeft). x.answer) (e ∙ J.judging) ∙ w.0 in
     let i : n ≡ length p.text = cc in
     let held = ap (λ (x : MergeLeft). x.output) (e ∙ J.judging) ∙ w.1 in
     let put = ap₂ (λ (x : List ℕ) (m : ℕ). x ++ replicate (length output - m) 0) F.1 (sym i) in

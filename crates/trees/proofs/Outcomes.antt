@@ -11,7 +11,7 @@ use lib.IntN.{ℤ, pos, neg_ℤ}
 use lib.ListN.{length, take, drop, get_or}
 use lib.Seq.{length-take-le}
 use Rattle.words.specs.Limits.{longest, largest_size}
-use Rattle.words.proofs.Lists.{if-true, leb-decides, and_left, and_right}
+use Rattle.words.proofs.Lists.{zero_one, if-true, leb-decides, and_left, and_right}
 use Rattle.aspif.specs.Rules.{InputRule, expand, atoms}
 use Rattle.drupe.specs.Texts.{text_of}
 use Rattle.derivation.specs.States.{is_atom}
@@ -21,17 +21,17 @@ use Rattle.merging.specs.Merge.{all_fit}
 use Rattle.merging.specs.Claims.{demanding_as_written}
 use Rattle.splits.specs.Service.{are_halves, merged_steps, is_writable}
 use Rattle.splits.specs.Joined.{WrittenBy}
-use Rattle.splits.specs.declared.texts.Written.{Written}
 use Rattle.splits.proofs.Answers.{text_in}
 use Rattle.shapes.specs.Tree.{Shape, end, split, leaves, sum, ends}
 use Rattle.trees.specs.Service.{Side, fails, gives, first_end, merge_outcome, tree_outcome}
-use Rattle.trees.specs.Sides.{Standing, Subtree, Takes, both_taken, pending, joined_sides, side_of, EndTaken, AddsTo, Joinable, Took, Merged}
+use Rattle.trees.specs.Sides.{Standing, Subtree, Takes, both_taken, pending, joined_sides, side_of, EndTaken, AddsTo, Joinable, Took, Merged, Sided}
 use Rattle.trees.specs.declared.sides.Place.{Place}
 use Rattle.trees.specs.declared.sides.Pending.{Pending}
-use Rattle.trees.specs.declared.sides.Sided.{Sided}
-use Rattle.trees.specs.declared.sides.Sided.TheVariants.{Text, Refused}
 use Rattle.trees.proofs.OverTrees.{at_split}
 use Rattle.trees.proofs.Subtrees.{Halved, takes-end, takes-both, both-counted, some_number, some-length, tree-end, split-leaves}
+use Rattle.splits.specs.declared.MergeFault.TheVariants.{NotAccepted, NotWritable, StoreFull}
+use Rattle.splits.specs.declared.MergeFault.{MergeFault}
+use Rattle.std.specs.Prelude.{Result, Ok, Err, IsErrAnd}
 
 -- An end
 
@@ -45,31 +45,31 @@ first-length texts [] h e = absurd (omega (arith, h))
 first-length texts (n ∷ ns) h e = omega (arith, e)
 
 module _ (s o : ℕ) (ws : List InputRule) where
-  outcome-end : (texts : List (List ℕ)) → tree_outcome s o ws end texts ≡ pending s ws (first_end texts) 57
+  outcome-end : (texts : List (List ℕ)) → tree_outcome s o ws end texts ≡ pending s ws (first_end texts) NotAccepted
   unfolding tree_outcome
   outcome-end texts = refl
 
   module _ {depth N : ℕ} {tree texts lengths : List ℕ} {t : Shape} {rest : List ℕ} (T : Subtree depth N tree texts lengths t rest) where
-    end-text : tree_outcome s o ws end (ends texts lengths) ≡ pending s ws (take (get_or lengths 0 0) texts) 57
-    end-text = outcome-end (ends texts lengths) ∙ ap (λ (l : List ℕ). pending s ws l 57) (first-end texts lengths (some-length T))
+    end-text : tree_outcome s o ws end (ends texts lengths) ≡ pending s ws (take (get_or lengths 0 0) texts) NotAccepted
+    end-text = outcome-end (ends texts lengths) ∙ ap (λ (l : List ℕ). pending s ws l NotAccepted) (first-end texts lengths (some-length T))
 
     pub end-merged : get_or tree 0 0 ≡ 0 → (output : List ℕ) (r : Sided) → EndTaken texts lengths output r → Merged s o ws t rest tree texts lengths output r
     end-merged z output r e = let q = tree-end T z in rw (q.0, q.1) (by r e)
       where
         by : (r : Sided) → EndTaken texts lengths output r → Merged s o ws end (drop 1 tree) tree texts lengths output r
-        by (Text p) (a, b, c) =
-            subst (λ (q : Pending). Merged s o ws end (drop 1 tree) tree texts lengths output (Text q)) (sym a)
-            (record { outcome = end-text ∙ ap (λ (l : List ℕ). pending s ws l 57) (sym c); took = (b, takes-end tree texts lengths (some_number T) (some-length T) T.added _ 57) })
-        by (Refused j) (a, b) =
+        by (Ok p) (a, b, c) =
+            subst (λ (q : Pending). Merged s o ws end (drop 1 tree) tree texts lengths output (Ok q)) (sym a)
+            (record { outcome = end-text ∙ ap (λ (l : List ℕ). pending s ws l NotAccepted) (sym c); took = (b, takes-end tree texts lengths (some_number T) (some-length T) T.added _ NotAccepted) })
+        by (Err j) (a, b) =
             let l : length (take (get_or lengths 0 0) texts) ≡ get_or lengths 0 0 = length-take-le (get_or lengths 0 0) texts (first-length texts lengths (some-length T) T.added) in
             let no : is_accepted s ws (take (get_or lengths 0 0) texts) ≡ false =
             ap ends_empty (too_long longest (atoms ws) (expand ws) s (take (get_or lengths 0 0) texts) (omega (arith, l, b))) in
-            record { outcome = end-text ∙ (ap (λ (x : Bool). cond x (gives (take (get_or lengths 0 0) texts)) (fails 57)) no ∙ ap fails (sym a)); took = tt }
+            record { outcome = end-text ∙ (ap (λ (x : Bool). cond x (gives (take (get_or lengths 0 0) texts)) (fails NotAccepted)) no ∙ ap fails (sym a)); took = tt }
 
 -- A split: the first refusal met decides, the demanding side before the other
 
 module _ (s o : ℕ) (ws : List InputRule) (v : ℕ) (l r : Shape) (texts : List (List ℕ)) where
-  pub first-fails : (k : ℕ) → tree_outcome s o (demanding_as_written ws (pos v)) l texts ≡ fails k → tree_outcome s o ws (split v l r) texts ≡ fails k
+  pub first-fails : (k : MergeFault) → tree_outcome s o (demanding_as_written ws (pos v)) l texts ≡ fails k → tree_outcome s o ws (split v l r) texts ≡ fails k
   first-fails k e = at_split s o ws v l r texts ∙ rw e refl
 
   both-sides : {x y : Side} → tree_outcome s o (demanding_as_written ws (pos v)) l texts ≡ x
@@ -78,7 +78,7 @@ module _ (s o : ℕ) (ws : List InputRule) (v : ℕ) (l r : Shape) (texts : List
   both-sides a b = at_split s o ws v l r texts ∙ ap₂ (λ (x y : Side). joined_sides s o ws v x y) a b
 
 -- the other side is refused
-pub other-refused : (s o : ℕ) (ws : List InputRule) (v : ℕ) (first : List ℕ) (j k : ℕ)
+pub other-refused : (s o : ℕ) (ws : List InputRule) (v : ℕ) (first : List ℕ) (j k : MergeFault)
     → joined_sides s o ws v (pending s (demanding_as_written ws (pos v)) first j) (fails k) ≡ fails (cond (is_accepted s (demanding_as_written ws (pos v)) first) k j)
 other-refused s o ws v first j k = by (is_accepted s (demanding_as_written ws (pos v)) first)
   where
@@ -88,8 +88,14 @@ other-refused s o ws v first j k = by (is_accepted s (demanding_as_written ws (p
 
 -- the demanding side's text stands in its buffer
 pub joinable-first : (one : Pending) (other : Sided) (first second : List ℕ) → Joinable one other first second → one.size ≤ length first
-joinable-first one (Text two) first second j = j.0
-joinable-first one (Refused k) first second j = j
+joinable-first one (Ok two) first second j = j.0
+joinable-first one (Err k) first second j = j
+
+-- what `?` answers of a side that is refused
+pub handed-up : {s o : ℕ} {ws : List InputRule} {t : Shape} {rest tree texts lengths output : List ℕ} (r : Sided) {k : MergeFault} → IsErrAnd r (λ e. e ≡ k)
+    → tree_outcome s o ws t (ends texts lengths) ≡ fails k → Merged s o ws t rest tree texts lengths output r
+handed-up (Ok p) h e = absurd h
+handed-up (Err j) h e = record { outcome = e ∙ ap fails (sym h); took = tt }
 
 -- The same, from what the sides leave
 
@@ -99,11 +105,11 @@ module _ (s o : ℕ) (ws : List InputRule) {depth N : ℕ} {tree texts lengths :
   outcome-is : tree_outcome s o ws t (ends texts lengths) ≡ tree_outcome s o ws (split v H.left H.right) (ends texts lengths)
   outcome-is = ap (λ (u : Shape). tree_outcome s o ws u (ends texts lengths)) H.is
 
-  pub first-refused : (k : ℕ) → one ≡ Refused k → tree_outcome s o ws t (ends texts lengths) ≡ fails k
+  pub first-refused : (k : MergeFault) → one ≡ Err k → tree_outcome s o ws t (ends texts lengths) ≡ fails k
   first-refused k e =
       outcome-is ∙ first-fails s o ws v H.left H.right (ends texts lengths) k (M.outcome ∙ ap (side_of s (demanding_as_written ws (pos v)) first) e)
 
-  module _ (p : Pending) (is : one ≡ Text p) where
+  module _ (p : Pending) (is : one ≡ Ok p) where
     pub first-took : (p.size ≤ longest) × Takes H.left H.between (drop 1 tree) texts lengths p
     first-took = subst (Took H.left H.between (drop 1 tree) texts lengths) is M.took
 
@@ -122,8 +128,8 @@ module _ (s o : ℕ) (ws : List InputRule) {depth N : ℕ} {tree texts lengths :
           fits = omega (arith, first-took.0, f)
 
           by : (w : Sided) → Took H.right rest (drop (1 + p.numbers) tree) (drop p.bytes texts) (drop p.ends lengths) w → Joinable p w first second
-          by (Text q) (m, k) = (fits, omega (arith, m, g), both-counted tree (some_number T) first-took.1 k x y z (split-leaves T H))
-          by (Refused i) k = fits
+          by (Ok q) (m, k) = (fits, omega (arith, m, g), both-counted tree (some_number T) first-took.1 k x y z (split-leaves T H))
+          by (Err i) k = fits
 
       -- what is made of them
       pub sides-joined : {output : List ℕ} {r : Sided}
@@ -140,14 +146,14 @@ module _ (s o : ℕ) (ws : List InputRule) {depth N : ℕ} {tree texts lengths :
         where
           by : (w : Sided) → Took H.right rest (drop (1 + p.numbers) tree) (drop p.bytes texts) (drop p.ends lengths) w
               → (x : Sided) → AddsTo p w x → Took t rest tree texts lengths x
-          by (Text q) (m, k) (Text x) (b, e) = (
+          by (Ok q) (m, k) (Ok x) (b, e) = (
             b,
             subst (Takes t rest tree texts lengths) (sym e)
                 (subst (λ (u : Shape). Takes u rest tree texts lengths (both_taken x.size p q)) (sym H.is) (takes-both tree (some_number T) first-took.1 k v x.size)),
           )
-          by (Text q) k (Refused j) a = tt
-          by (Refused i) k (Text x) a = absurd a
-          by (Refused i) k (Refused j) a = tt
+          by (Ok q) k (Err j) a = tt
+          by (Err i) k (Ok x) a = absurd a
+          by (Err i) k (Err j) a = tt
 
 -- What a call for a side tells, of every program and every tree, by the names that the caller knows
 
@@ -166,7 +172,7 @@ subtree-as b c d e f = rw (← b, ← c, ← d, ← e) f
 
 -- A merge into a buffer of 65,535 bytes, held to the output's length afterwards
 
-module _ (s limit : ℕ) (ws : List InputRule) (v : ℕ) (first second output : List ℕ) (one two : ℕ) (atom : is_atom (atoms ws) v ≡ true)
+module _ (s limit : ℕ) (ws : List InputRule) (v : ℕ) (first second output : List ℕ) (one two : MergeFault) (atom : is_atom (atoms ws) v ≡ true)
     (long : length output ≡ longest) where
   abbrev good_first : Bool
   good_first = is_accepted s (demanding_as_written ws (pos v)) first
@@ -194,31 +200,8 @@ module _ (s limit : ℕ) (ws : List InputRule) (v : ℕ) (first second output : 
       by true false e = refl
       by false b e = refl
 
-  -- 58 of the buffer
-  pub over-buffer : {w : Written} (k : ℕ) → w ≡ Written.Refused k → k ≡ 58 → WrittenBy s ws v first second output w → merging ≡ fails 58
-  over-buffer k e is W = by (subst (WrittenBy s ws v first second output) e W)
-    where
-      never : (f b : Bool) → (f && (b && b)) ≡ false → (f && (b && leb (length merged-text) limit)) ≡ false
-      never true true e = absurd (true≢false e)
-      never true false e = refl
-      never false b e = refl
-
-      by : WrittenBy s ws v first second output (Written.Refused k) → merging ≡ fails 58
-      by (inl a) = absurd (omega (arith, is, a.0))
-      by (inr a) =
-          both-good a.1
-          ∙ rw (never (all_fit (merged_steps ws v first second)) (leb (length merged-text) longest) (subst (λ (n : ℕ). is_writable n (merged_steps ws v first second) ≡ false) long a.2)) refl
-
-  -- 57: one of the two is not accepted
-  pub not-halves : {w : Written} (k : ℕ) → w ≡ Written.Refused k → ¬ (k ≡ 58) → WrittenBy s ws v first second output w → merging ≡ fails (cond good_first two one)
-  not-halves k e not W = by (subst (WrittenBy s ws v first second output) e W)
-    where
-      by : WrittenBy s ws v first second output (Written.Refused k) → merging ≡ fails (cond good_first two one)
-      by (inl a) = one-bad a.1
-      by (inr a) = absurd (not a.0)
-
-  module _ {w : Written} (n : ℕ) (e : w ≡ Written.Text n) (W : WrittenBy s ws v first second output w) where
-    wrote : WrittenBy s ws v first second output (Written.Text n)
+  module _ {w : Result ℕ MergeFault} (n : ℕ) (e : w ≡ Ok n) (W : WrittenBy s ws v first second output w) where
+    wrote : WrittenBy s ws v first second output (Ok n)
     wrote = subst (WrittenBy s ws v first second output) e W
 
     pub text-size : n ≤ longest
@@ -238,10 +221,10 @@ module _ (s limit : ℕ) (ws : List InputRule) (v : ℕ) (first second output : 
         held false b c e = absurd (true≢false (sym e))
 
     -- 58
-    pub over-limit : limit < n → merging ≡ fails 58
+    pub over-limit : limit < n → merging ≡ fails NotWritable
     over-limit h = both-good wrote.0 ∙ rw (writable, lt-leb (length merged-text) limit (omega (arith, h, wrote.2.0))) refl
 
-    pub text-pending : n ≤ limit → merging ≡ pending s ws (take n output) 59
+    pub text-pending : n ≤ limit → merging ≡ pending s ws (take n output) StoreFull
     text-pending h =
         both-good wrote.0
         ∙ rw (writable, le-leb (length merged-text) limit (omega (arith, h, wrote.2.0)), text_in merged-text (length output - n) wrote.2.0 wrote.2.1) refl

@@ -16,14 +16,15 @@ use Rattle.runs.specs.Course.{course, is_accepted}
 use Rattle.checker.specs.Check.{Checked}
 use Rattle.checker.proofs.Whole.{soundness-whole}
 use Rattle.merging.specs.Claims.{demanding_as_written}
-use Rattle.splits.specs.declared.MergeAnswer.{MergeAnswer}
-use Rattle.splits.specs.declared.MergeAnswer.TheVariants.{Merged, RefusedProgram, Refused}
-use Rattle.splits.specs.Service.{are_halves, merged_steps, MergeLeft, leaves_nothing, judged_text}
+use Rattle.splits.specs.Service.{are_halves, merged_steps, MergeLeft, leaves_nothing, judged_text, MergeAnswer}
 use Rattle.splits.proofs.OverTexts.{merged-ends, judged-checked}
 use Rattle.splits.proofs.Exactly.{accepted-written, writable-short}
 use Rattle.shapes.specs.Tree.{Shape, end, split, Parsed, bad, found, tree_of, most_splits, leaves, ends, matches}
 use Rattle.trees.specs.Service.{Side, fails, gives, onward, merge_outcome, tree_outcome, written_tree, parsed_tree, tree_reading, merge_tree}
 use Rattle.trees.specs.Claims.{tree_text, FitsAll, TreeWritten, Demand3Tree}
+use Rattle.splits.specs.declared.MergeFault.TheVariants.{NotWritable, NoTree}
+use Rattle.aspif.specs.declared.Refusal.TheVariants.{Program, Service}
+use Rattle.std.specs.Prelude.{Ok, Err}
 
 -- Every merge fits
 
@@ -63,9 +64,9 @@ tree-written t s o text tree texts lengths ws q shape p m f h =
 -- The service writes a text
 
 abbrev pub IsMerged : MergeAnswer → Type 0
-IsMerged (Merged n) = Unit {0}
-IsMerged (RefusedProgram x) = ⊥
-IsMerged (Refused k) = ⊥
+IsMerged (Ok n) = Unit {0}
+IsMerged (Err (Program x)) = ⊥
+IsMerged (Err (Service k)) = ⊥
 
 -- the text that was judged, of a tree that matches the ends, and what it comes to
 module _ (t s o : ℕ) where
@@ -77,9 +78,9 @@ module _ (t s o : ℕ) where
   side-judged ws (fails k) m = absurd m
   side-judged ws (gives text) m = by (leb (length text) o) m
     where
-      by : (b : Bool) → IsMerged (cond b (judged_text t s o ws text (course (atoms ws) (expand ws) s text)) (leaves_nothing t s o (Refused 58))).answer
+      by : (b : Bool) → IsMerged (cond b (judged_text t s o ws text (course (atoms ws) (expand ws) s text)) (leaves_nothing t s o (Err (Service NotWritable)))).answer
           → (path : List ℕ) × (gives text ≡ gives path)
-          × Judging ws path (cond b (judged_text t s o ws text (course (atoms ws) (expand ws) s text)) (leaves_nothing t s o (Refused 58)))
+          × Judging ws path (cond b (judged_text t s o ws text (course (atoms ws) (expand ws) s text)) (leaves_nothing t s o (Err (Service NotWritable))))
       by true m = (text, refl, refl)
       by false m = absurd m
 
@@ -99,7 +100,7 @@ module _ (t s o : ℕ) where
       outcome : Side
       outcome = tree_outcome s o ws shape (ends texts lengths)
 
-      by : (b : Bool) → matches shape texts lengths ≡ b → IsMerged (cond b (written_tree t s o ws outcome) (leaves_nothing t s o (Refused 64))).answer
+      by : (b : Bool) → matches shape texts lengths ≡ b → IsMerged (cond b (written_tree t s o ws outcome) (leaves_nothing t s o (Err (Service NoTree)))).answer
           → Parse ws texts lengths (found shape [])
       by true f m =
           let x = side-judged ws outcome m in

@@ -17,16 +17,17 @@ use Rattle.trees.specs.Service.{tree_outcome, written_tree, merge_tree}
 use Rattle.trees.specs.Sides.{pending}
 use Rattle.trees.specs.Claims.{RootEnd}
 use Rattle.trees.proofs.Answers.{last-refused, over-output, written_out}
+use Rattle.splits.specs.declared.MergeFault.TheVariants.{NotAccepted}
 
 module _ (t s o : ℕ) (text texts : List ℕ) (ws : List InputRule) (read : read_text t text ≡ program ws) where
-  outcome : tree_outcome s o ws end (ends texts (length texts ∷ [])) ≡ pending s ws texts 57
+  outcome : tree_outcome s o ws end (ends texts (length texts ∷ [])) ≡ pending s ws texts NotAccepted
   unfolding tree_outcome
-  outcome = ap (λ (l : List ℕ). pending s ws l 57) (take-length texts)
+  outcome = ap (λ (l : List ℕ). pending s ws l NotAccepted) (take-length texts)
 
   fits : matches end texts (length texts ∷ []) ≡ true
   fits = eq-eqb (length texts + 0) (length texts) (omega arith)
 
-  left : merge_tree t s o text (0 ∷ []) texts (length texts ∷ []) ≡ written_tree t s o ws (pending s ws texts 57)
+  left : merge_tree t s o text (0 ∷ []) texts (length texts ∷ []) ≡ written_tree t s o ws (pending s ws texts NotAccepted)
   unfolding merge_tree
   left =
       let p : tree_of most_splits [] (atoms ws) (0 ∷ []) ≡ found end [] = at-end (atoms ws) [] most_splits (0 ∷ []) (λ e. omega (arith, e)) refl in
@@ -40,7 +41,7 @@ pub root-end : RootEnd
 root-end t s o text texts ws q =
     let e = checked t s o text texts ws q in
     let l = left t s o text texts ws q in (
-      λ i. l ∙ sym (last-refused t s o ws texts 57 e i),
-      λ i h. l ∙ sym (over-output t s o ws texts 57 e i h),
-      λ i h. l ∙ sym (written_out t s o ws texts 57 e i h refl refl),
+      λ i. l ∙ sym (last-refused t s o ws texts NotAccepted e i),
+      λ i h. l ∙ sym (over-output t s o ws texts NotAccepted e i h),
+      λ i h. l ∙ sym (written_out t s o ws texts NotAccepted e i h refl refl),
     )

@@ -13,6 +13,7 @@ use Rattle.words.specs.Limits.{largest_size}
 use Rattle.words.specs.Lists.{any}
 use Rattle.words.proofs.Lists.{and_left}
 use Rattle.derivation.specs.States.{is_atom}
+use Rattle.splits.specs.declared.MergeFault.{MergeFault}
 use Rattle.shapes.specs.Tree.{Shape, end, split, Parsed, bad, found, and_then, tree_of, leaves, sum, ends}
 use Rattle.trees.specs.Sides.{Subtree, Takes, Countable, both_taken}
 use Rattle.trees.specs.declared.sides.Pending.{Pending}
@@ -102,7 +103,7 @@ module _ (path : List ℕ) (N : ℕ) (t : Shape) (rest : List ℕ) where
 -- What is taken
 
 -- an end takes one number, one length and the bytes of its text
-pub takes-end : (tree texts lengths : List ℕ) → 1 ≤ length tree → 1 ≤ length lengths → sum lengths ≡ length texts → (k j : ℕ)
+pub takes-end : (tree texts lengths : List ℕ) → 1 ≤ length tree → 1 ≤ length lengths → sum lengths ≡ length texts → (k : ℕ) (j : MergeFault)
     → Takes end (drop 1 tree) tree texts lengths (record { size = k; refusal = j; numbers = 1; bytes = get_or lengths 0 0; ends = 1 })
 takes-end tree texts [] h l e k j = absurd (omega (arith, l))
 takes-end tree texts (n ∷ ns) h l e k j =

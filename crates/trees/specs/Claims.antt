@@ -1,6 +1,6 @@
 -- What is claimed of the merge of a tree over texts; OverTrees.antt, OneTree.antt, Only.antt and Roots.antt of proofs/ prove it.
 -- Assumes nothing.
-use Rattle.std.specs.Prelude.{◌≡◌, true, false, List, [], ◌∷◌, ◌++◌, ℕ, ◌-◌, ◌≤◌, ◌<◌, ℤ, pos, neg_ℤ, length, replicate, take, drop}
+use Rattle.std.specs.Prelude.{◌≡◌, true, false, List, [], ◌∷◌, ◌++◌, ℕ, ◌-◌, ◌≤◌, ◌<◌, ℤ, pos, neg_ℤ, length, replicate, take, drop, Ok, Err}
 use Rattle.aspif.specs.Rules.{InputRule, expand, atoms}
 use Rattle.aspif.specs.Reading.{program, read_text}
 use Rattle.drupe.specs.Texts.{text_of}
@@ -15,9 +15,10 @@ use Rattle.merging.specs.Trees.{Tree, merged_tree, Fits}
 use Rattle.merging.specs.Trees as Trees
 use Rattle.splits.specs.Service.{steps_in, merged_steps, is_writable, leaves_nothing}
 use Rattle.splits.specs.Claims.{PastStore}
-use Rattle.splits.specs.declared.MergeAnswer.TheVariants.{Merged, Refused}
 use Rattle.shapes.specs.Tree.{Shape, end, split, found, tree_of, most_splits, leaves, ends, matches}
 use Rattle.trees.specs.Service.{first_end, merge_tree, MergedTree}
+use Rattle.splits.specs.declared.MergeFault.TheVariants.{NotAccepted, NotWritable}
+use Rattle.aspif.specs.declared.Refusal.TheVariants.{Service}
 
 -- the text of a tree: an end as it stands, a split the merge of its sides
 abbrev pub tree_text : List InputRule → Shape → (texts : List (List ℕ)) → List ℕ
@@ -48,7 +49,7 @@ TreeWritten =
     (t s o : ℕ) (text tree texts lengths : List ℕ) (ws : List InputRule) → read_text t text ≡ program ws
     → (shape : Shape) → tree_of most_splits [] (atoms ws) tree ≡ found shape [] → matches shape texts lengths ≡ true
     → FitsAll s o ws shape (ends texts lengths) → length (tree_text ws shape (ends texts lengths)) ≤ o
-    → ((merge_tree t s o text tree texts lengths).answer ≡ Merged (length (tree_text ws shape (ends texts lengths))))
+    → ((merge_tree t s o text tree texts lengths).answer ≡ Ok (length (tree_text ws shape (ends texts lengths))))
     × ((merge_tree t s o text tree texts lengths).output
     ≡ tree_text ws shape (ends texts lengths) ++ replicate (o - length (tree_text ws shape (ends texts lengths))) 0)
 
@@ -70,7 +71,7 @@ OneTree =
 abbrev pub TreeOnly : Type 0
 TreeOnly =
     (text tree texts lengths : List ℕ) (table store table' store' : List ℤ) (output output' : List ℕ) (n : ℕ)
-    → MergedTree text tree texts lengths table store table' store' output output' (Merged n)
+    → MergedTree text tree texts lengths table store table' store' output output' (Ok n)
     → (ws : List InputRule) × (read_text (length table) text ≡ program ws)
     × ((shape : Shape) × (tree_of most_splits [] (atoms ws) tree ≡ found shape []) × (matches shape texts lengths ≡ true)
     × FitsAll (length store) (length output) ws shape (ends texts lengths)
@@ -83,7 +84,7 @@ TreeOnly =
 abbrev pub Demand3Tree : Type 1
 Demand3Tree =
     (text tree texts lengths : List ℕ) (table store table' store' : List ℤ) (output output' : List ℕ) (n : ℕ)
-    → MergedTree text tree texts lengths table store table' store' output output' (Merged n)
+    → MergedTree text tree texts lengths table store table' store' output output' (Ok n)
     → ((ws : List InputRule) × (read_text (length table) text ≡ program ws) × NoneAsWritten ws)
     × ((c : Counts) × (check text (take n output') (length table) (length store)
     ≡ record { verdict = Inconsistent c; table = table'; store = store' }))
@@ -94,13 +95,13 @@ abbrev pub RootEnd : Type 0
 RootEnd =
     (t s o : ℕ) (text texts : List ℕ) (ws : List InputRule) → read_text t text ≡ program ws
     → (is_inconsistent (check text texts t s).verdict ≡ false
-    → merge_tree t s o text (0 ∷ []) texts (length texts ∷ []) ≡ leaves_nothing t s o (Refused 57))
+    → merge_tree t s o text (0 ∷ []) texts (length texts ∷ []) ≡ leaves_nothing t s o (Err (Service NotAccepted)))
     × (is_inconsistent (check text texts t s).verdict ≡ true → o < length texts
-    → merge_tree t s o text (0 ∷ []) texts (length texts ∷ []) ≡ leaves_nothing t s o (Refused 58))
+    → merge_tree t s o text (0 ∷ []) texts (length texts ∷ []) ≡ leaves_nothing t s o (Err (Service NotWritable)))
     × (is_inconsistent (check text texts t s).verdict ≡ true → length texts ≤ o
     → merge_tree t s o text (0 ∷ []) texts (length texts ∷ [])
     ≡ record {
-      answer = Merged (length texts);
+      answer = Ok (length texts);
       table = (check text texts t s).table;
       store = (check text texts t s).store;
       output = texts ++ replicate (o - length texts) 0;

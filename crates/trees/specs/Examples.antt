@@ -1,7 +1,7 @@
 -- What the service answers on worked cases, by its definition; proofs/Examples.antt computes them, takes `fits` from `TreeOnly`, and
 -- `inner-within` and `inner-past` from `MergedEnds`.
 -- Assumes nothing.
-use Rattle.std.specs.Prelude.{◌≡◌, List, [], ◌∷◌, map, ℕ, pos, length}
+use Rattle.std.specs.Prelude.{◌≡◌, List, [], ◌∷◌, map, ℕ, pos, length, Ok, Err}
 use Rattle.words.specs.Lists.{concat}
 use Rattle.text.specs.Strings.{lines}
 use Rattle.aspif.specs.Rules.{InputRule, expand, atoms}
@@ -9,13 +9,13 @@ use Rattle.aspif.specs.Reading.{refused, program, read_text}
 use Rattle.drupe.specs.Texts.{Step, text_of}
 use Rattle.merging.specs.Claims.{demanding_as_written}
 use Rattle.merging.specs.Trees.{merged_tree}
-use Rattle.splits.specs.Service.{merged_steps}
+use Rattle.splits.specs.Service.{merged_steps, MergeAnswer}
 use Rattle.splits.specs.Claims.{PastStore}
-use Rattle.splits.specs.declared.MergeAnswer.{MergeAnswer}
-use Rattle.splits.specs.declared.MergeAnswer.TheVariants.{Merged, Refused}
 use Rattle.shapes.specs.Tree.{Shape, end, split, found, tree_of, most_splits}
 use Rattle.trees.specs.Service.{merge_tree}
 use Rattle.trees.specs.Claims.{tree_text, FitsAll, tree_steps}
+use Rattle.splits.specs.declared.MergeFault.TheVariants.{NotAccepted, NotWritable, StoreFull, NoTree}
+use Rattle.aspif.specs.declared.Refusal.TheVariants.{Service}
 
 -- program C of the change: a choice over 1 to 7, and constraints that demand 7 and forbid it
 abbrev pub text_c : List ℕ
@@ -54,19 +54,19 @@ inner_steps = merged_steps inner_c 2 end_c end_c
 
 pub record Worked : Type 0 where
   -- the empty list; too few numbers; an atom twice on a path
-  pub none : answer_c 24 33 [] [] ≡ Refused 64
-  pub too_few : answer_c 24 33 (1 ∷ 0 ∷ []) (end_c ∷ []) ≡ Refused 64
-  pub twice : answer_c 24 33 (1 ∷ 1 ∷ 0 ∷ 0 ∷ 0 ∷ []) (end_c ∷ end_c ∷ end_c ∷ []) ≡ Refused 64
+  pub none : answer_c 24 33 [] [] ≡ Err (Service NoTree)
+  pub too_few : answer_c 24 33 (1 ∷ 0 ∷ []) (end_c ∷ []) ≡ Err (Service NoTree)
+  pub twice : answer_c 24 33 (1 ∷ 1 ∷ 0 ∷ 0 ∷ 0 ∷ []) (end_c ∷ end_c ∷ end_c ∷ []) ≡ Err (Service NoTree)
   -- a root end: 57 before 58
-  pub root : answer_c 24 33 (0 ∷ []) (end_c ∷ []) ≡ Merged 33
-  pub root-output : answer_c 24 32 (0 ∷ []) (end_c ∷ []) ≡ Refused 58
-  pub root-store : answer_c 23 32 (0 ∷ []) (end_c ∷ []) ≡ Refused 57
+  pub root : answer_c 24 33 (0 ∷ []) (end_c ∷ []) ≡ Ok 33
+  pub root-output : answer_c 24 32 (0 ∷ []) (end_c ∷ []) ≡ Err (Service NotWritable)
+  pub root-store : answer_c 23 32 (0 ∷ []) (end_c ∷ []) ≡ Err (Service NotAccepted)
   -- a merge: both ends' 57 before its 58, and 58 before 59
-  pub split-57 : answer_c 24 40 (1 ∷ 0 ∷ 0 ∷ []) (end_c ∷ bad_c ∷ []) ≡ Refused 57
-  pub split-58 : answer_c 24 40 (1 ∷ 0 ∷ 0 ∷ []) (end_c ∷ end_c ∷ []) ≡ Refused 58
-  pub split-59 : answer_c 24 400 (1 ∷ 0 ∷ 0 ∷ []) (end_c ∷ end_c ∷ []) ≡ Refused 59
+  pub split-57 : answer_c 24 40 (1 ∷ 0 ∷ 0 ∷ []) (end_c ∷ bad_c ∷ []) ≡ Err (Service NotAccepted)
+  pub split-58 : answer_c 24 40 (1 ∷ 0 ∷ 0 ∷ []) (end_c ∷ end_c ∷ []) ≡ Err (Service NotWritable)
+  pub split-59 : answer_c 24 400 (1 ∷ 0 ∷ 0 ∷ []) (end_c ∷ end_c ∷ []) ≡ Err (Service StoreFull)
   -- a merge of a merge
-  pub split : answer_c 200 87 tree_c ends_c ≡ Merged 87
+  pub split : answer_c 200 87 tree_c ends_c ≡ Ok 87
   -- its text is that of the merged tree of steps
   pub parsed : tree_of most_splits [] (atoms rules_c) tree_c ≡ found shape_c []
   pub one-tree : tree_text rules_c shape_c ends_c ≡ text_of (merged_tree (atoms rules_c) (expand rules_c) (tree_steps shape_c ends_c))
@@ -79,8 +79,8 @@ pub record Worked : Type 0 where
   pub inner-within : ¬ (PastStore 36 inner_c inner_steps)
   pub inner-past : PastStore 35 inner_c inner_steps
   -- "the demanding side before the other": its 58 or 59 before a bad end on the other side
-  pub first-58 : answer_c 200 40 (1 ∷ 2 ∷ 0 ∷ 0 ∷ 0 ∷ []) (end_c ∷ end_c ∷ bad_c ∷ []) ≡ Refused 58
-  pub first-59 : answer_c 24 400 (1 ∷ 2 ∷ 0 ∷ 0 ∷ 0 ∷ []) (end_c ∷ end_c ∷ bad_c ∷ []) ≡ Refused 59
-  pub second-57 : answer_c 200 400 (1 ∷ 2 ∷ 0 ∷ 0 ∷ 0 ∷ []) (end_c ∷ end_c ∷ bad_c ∷ []) ≡ Refused 57
+  pub first-58 : answer_c 200 40 (1 ∷ 2 ∷ 0 ∷ 0 ∷ 0 ∷ []) (end_c ∷ end_c ∷ bad_c ∷ []) ≡ Err (Service NotWritable)
+  pub first-59 : answer_c 24 400 (1 ∷ 2 ∷ 0 ∷ 0 ∷ 0 ∷ []) (end_c ∷ end_c ∷ bad_c ∷ []) ≡ Err (Service StoreFull)
+  pub second-57 : answer_c 200 400 (1 ∷ 2 ∷ 0 ∷ 0 ∷ 0 ∷ []) (end_c ∷ end_c ∷ bad_c ∷ []) ≡ Err (Service NotAccepted)
   -- and its bad end before a 58 inside the other side
-  pub first-57 : answer_c 200 40 (1 ∷ 0 ∷ 2 ∷ 0 ∷ 0 ∷ []) (bad_c ∷ end_c ∷ end_c ∷ []) ≡ Refused 57
+  pub first-57 : answer_c 200 40 (1 ∷ 0 ∷ 2 ∷ 0 ∷ 0 ∷ []) (bad_c ∷ end_c ∷ end_c ∷ []) ≡ Err (Service NotAccepted)

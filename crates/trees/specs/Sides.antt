@@ -1,6 +1,6 @@
 -- What the private functions that merge the sides of a split leave. No reader of a public contract needs it.
 -- Assumes nothing.
-use Rattle.std.specs.Prelude.{◌≡◌, cond, List, ◌++◌, ℕ, ◌+◌, ◌*◌, ◌-◌, ◌≤◌, ◌<◌, ℤ, pos, length, replicate, take, drop, get_or}
+use Rattle.std.specs.Prelude.{◌≡◌, cond, List, ◌++◌, ℕ, ◌+◌, ◌*◌, ◌-◌, ◌≤◌, ◌<◌, ℤ, pos, length, replicate, take, drop, get_or, Result, Ok, Err}
 use Rattle.words.specs.Limits.{longest, most_held, largest_size}
 use Rattle.aspif.specs.Rules.{InputRule, program_words}
 use Rattle.steps.specs.Held.{Program}
@@ -10,8 +10,8 @@ use Rattle.shapes.specs.Tree.{Shape, found, tree_of, leaves, sum, ends}
 use Rattle.trees.specs.Service.{Side, fails, gives, onward, merge_outcome, tree_outcome}
 use Rattle.trees.specs.declared.sides.Place.{Place}
 use Rattle.trees.specs.declared.sides.Pending.{Pending}
-use Rattle.trees.specs.declared.sides.Sided.{Sided}
-use Rattle.trees.specs.declared.sides.Sided.TheVariants.{Text, Refused}
+use Rattle.splits.specs.declared.MergeFault.TheVariants.{NotAccepted, StoreFull}
+use Rattle.splits.specs.declared.MergeFault.{MergeFault}
 
 -- The table
 
@@ -55,53 +55,58 @@ pub record Countable (a b : Pending) : Type 0 where
   pub bytes : a.bytes + b.bytes ≤ largest_size
   pub ends : a.ends + b.ends ≤ largest_size
 
--- a merged text of n bytes, with what both sides of its split take and the split's own number
+-- a merged text of n bytes, with what both sides of its split take and the question that it may fail
 abbrev pub both_taken : (n : ℕ) → (a b : Pending) → Pending
 both_taken n a b =
-    record { size = n; refusal = 59; numbers = 1 + a.numbers + b.numbers; bytes = a.bytes + b.bytes; ends = a.ends + b.ends }
+    record { size = n; refusal = StoreFull; numbers = 1 + a.numbers + b.numbers; bytes = a.bytes + b.bytes; ends = a.ends + b.ends }
 
 -- The sides
 
--- a text that is still to be checked, and the number of its refusal: with a store of s words, for the program ws
-abbrev pub pending : (s : ℕ) → List InputRule → (text : List ℕ) → (number : ℕ) → Side
+-- a text that is still to be checked, and the question that it fails if it is not accepted: with a store of s words, for
+-- the program ws
+abbrev pub pending : (s : ℕ) → List InputRule → (text : List ℕ) → (fault : MergeFault) → Side
 pending s ws text k = cond (is_accepted s ws text) (gives text) (fails k)
 
 -- the two sides of a split and their merge: "the demanding side before the other"
 abbrev pub joined_sides : (s o : ℕ) → List InputRule → (atom : ℕ) → (one two : Side) → Side
 joined_sides s o ws v one two = onward one (λ first. onward two (λ second. merge_outcome s o ws v first second))
 
--- what a side comes to, with its text at the front of a buffer
+-- what a side comes to: a text that is still to be checked, or the question that is failed
+abbrev pub Sided : Type 0
+Sided = Result Pending MergeFault
+
+-- the same of a program, with the text at the front of a buffer
 abbrev pub side_of : (s : ℕ) → List InputRule → (output : List ℕ) → Sided → Side
-side_of s ws output (Text p) = pending s ws (take p.size output) p.refusal
-side_of s ws output (Refused k) = fails k
+side_of s ws output (Ok p) = pending s ws (take p.size output) p.refusal
+side_of s ws output (Err k) = fails k
 
 -- an end: its text at the front of a buffer, or it is too long
 abbrev pub EndTaken : (texts lengths output : List ℕ) → Sided → Type 0
-EndTaken texts lengths output (Text p) =
-    (p ≡ record { size = get_or lengths 0 0; refusal = 57; numbers = 1; bytes = get_or lengths 0 0; ends = 1 })
+EndTaken texts lengths output (Ok p) =
+    (p ≡ record { size = get_or lengths 0 0; refusal = NotAccepted; numbers = 1; bytes = get_or lengths 0 0; ends = 1 })
     × (get_or lengths 0 0 ≤ longest) × (take (get_or lengths 0 0) output ≡ take (get_or lengths 0 0) texts)
-EndTaken texts lengths output (Refused k) = (k ≡ 57) × (longest < get_or lengths 0 0)
+EndTaken texts lengths output (Err k) = (k ≡ NotAccepted) × (longest < get_or lengths 0 0)
 
 -- two texts that are merged: what the merged text takes
 abbrev pub Adds : (one two : Pending) → Sided → Type 0
-Adds one two (Text p) = (p.size ≤ longest) × (p ≡ both_taken p.size one two)
-Adds one two (Refused k) = Unit {0}
+Adds one two (Ok p) = (p.size ≤ longest) × (p ≡ both_taken p.size one two)
+Adds one two (Err k) = Unit {0}
 
 -- the same where the other side may be refused
 abbrev pub AddsTo : (one : Pending) → (other : Sided) → Sided → Type 0
-AddsTo one (Text two) r = Adds one two r
-AddsTo one (Refused k) (Text p) = ⊥
-AddsTo one (Refused k) (Refused j) = Unit {0}
+AddsTo one (Ok two) r = Adds one two r
+AddsTo one (Err k) (Ok p) = ⊥
+AddsTo one (Err k) (Err j) = Unit {0}
 
 -- the texts of two sides stand in their buffers, and what they take can be counted
 abbrev pub Joinable : (one : Pending) → (other : Sided) → (first second : List ℕ) → Type 0
-Joinable one (Text two) first second = (one.size ≤ length first) × (two.size ≤ length second) × Countable one two
-Joinable one (Refused k) first second = one.size ≤ length first
+Joinable one (Ok two) first second = (one.size ≤ length first) × (two.size ≤ length second) × Countable one two
+Joinable one (Err k) first second = one.size ≤ length first
 
 -- what a side takes for a tree, where it is a text
 abbrev pub Took : Shape → (rest tree texts lengths : List ℕ) → Sided → Type 0
-Took t rest tree texts lengths (Text p) = (p.size ≤ longest) × Takes t rest tree texts lengths p
-Took t rest tree texts lengths (Refused k) = Unit {0}
+Took t rest tree texts lengths (Ok p) = (p.size ≤ longest) × Takes t rest tree texts lengths p
+Took t rest tree texts lengths (Err k) = Unit {0}
 
 -- the side of a tree at the front of the numbers
 pub record Merged (s o : ℕ) (ws : List InputRule) (t : Shape) (rest tree texts lengths output : List ℕ) (r : Sided) : Type 0 where

@@ -15,23 +15,24 @@ ghost use Rattle.shapes.specs.Tree.{Shape, ends, most_splits};
 ghost use Rattle.trees.specs.Service.{tree_outcome, written_tree, tree_reading, MergedTree};
 ghost use Rattle.trees.specs.Sides.{Subtree, pending};
 
-use crate::sides::{Place, Sided};
-use aspif::ProgramReading;
+use crate::sides::Place;
+use aspif::{ProgramCounts, Refusal};
 use checker::judging;
-use splits::MergeAnswer;
+use splits::MergeFault;
 use splits::halves::WIDE;
 use words::LONGEST;
 
-// The last check, that of the text with the lent table and store; the number is its refusal. 58 of a root end comes after it.
+// The last check, that of the text with the lent table and store, which fails the question given. 58 of a root end comes
+// after it.
 fn write_out(
     text: &[u8],
-    number: u8,
+    fault: MergeFault,
     table: &mut [i32],
     rules: usize,
     atoms: usize,
     store: &mut [i32],
     output: &mut [u8],
-) -> MergeAnswer
+) -> Result<usize, Refusal<MergeFault>>
     requires program { ((ws : List InputRule) × Program table.old rules atoms ws) × (rules ≤ most_rules) }
     requires empty { (store.old ≡ replicate (length store.old) (pos 0)) × (output.old ≡ replicate (length output.old) 0) }
     requires text { length text.now ≤ longest }
@@ -39,17 +40,17 @@ fn write_out(
         → table.old ≡ table_words (length table.old) ws
         → record { answer = result; table = table.new; store = store.new; output = output.new }
         ≡ written_tree (length table.old) (length store.old) (length output.old) ws
-        (pending (length store.old) ws text.now number) }
+        (pending (length store.old) ws text.now fault) }
 {
     let verdict = judging::check_proof(text, table, atoms, rules, store);
     if !judging::is_inconsistent(verdict) {
-        return splits::refuse(table, store, output, number);
+        return splits::refuse(table, store, output, fault);
     }
     if output.len() < text.len() {
-        return splits::refuse(table, store, output, 58);
+        return splits::refuse(table, store, output, MergeFault::NotWritable);
     }
     let n = text::writing::put_bytes(output, 0, text);
-    MergeAnswer::Merged(n)
+    Ok(n)
 }
 
 // The merge of a tree with its ends, once 64 is passed. The constraints stand behind the program's words in a wider table.
@@ -62,7 +63,7 @@ fn merge_whole(
     atoms: usize,
     store: &mut [i32],
     output: &mut [u8],
-) -> MergeAnswer
+) -> Result<usize, Refusal<MergeFault>>
     requires program { ((ws : List InputRule) × Program table.old rules atoms ws) × (rules ≤ most_rules) }
     requires short { length (program_words (rules_at rules table.old)) ≤ longest }
     requires tree { (t : Shape) × Subtree most_splits atoms tree.now texts.now lengths.now t [] }
@@ -86,8 +87,8 @@ fn merge_whole(
         limit: output.len(),
     };
     match sides::merge_side(place, tree, texts, lengths, &mut wide, store, &mut whole) {
-        Sided::Refused(number) => splits::refuse(table, store, output, number),
-        Sided::Text(pending) => {
+        Err(fault) => splits::refuse(table, store, output, fault),
+        Ok(pending) => {
             let size = pending.size;
             write_out(
                 &whole[..size],
@@ -112,7 +113,7 @@ fn merge_read(
     atoms: usize,
     store: &mut [i32],
     output: &mut [u8],
-) -> MergeAnswer
+) -> Result<usize, Refusal<MergeFault>>
     requires program { ((ws : List InputRule) × Program table.old rules atoms ws) × (rules ≤ most_rules) }
     requires short { length (program_words (rules_at rules table.old)) ≤ longest }
     requires empty { (store.old ≡ replicate (length store.old) (pos 0)) × (output.old ≡ replicate (length output.old) 0) }
@@ -122,7 +123,7 @@ fn merge_read(
         ≡ tree_reading (length table.old) (length store.old) (length output.old) tree.now texts.now lengths.now (program ws) }
 {
     if !shapes::is_tree(atoms, tree, texts.len(), lengths) {
-        return splits::refuse(table, store, output, 64);
+        return splits::refuse(table, store, output, MergeFault::NoTree);
     }
     merge_whole(tree, texts, lengths, table, rules, atoms, store, output)
 }
@@ -138,17 +139,12 @@ pub fn merge_tree(
     table: &mut [i32],
     store: &mut [i32],
     output: &mut [u8],
-) -> MergeAnswer
+) -> Result<usize, Refusal<MergeFault>>
     ensures { MergedTree program.now tree.now texts.now lengths.now
         table.old store.old table.new store.new output.old output.new result }
 {
     words::zero_all(store);
-    words::zero_bytes(output);
-    let read = aspif::read_program(program, table);
-    match read {
-        ProgramReading::Refused(refusal) => MergeAnswer::RefusedProgram(refusal),
-        ProgramReading::Read { atoms, rules } => merge_read(
-            tree, texts, lengths, table, rules, atoms, store, output,
-        ),
-    }
+    words::zero_all(output);
+    let ProgramCounts { atoms, rules } = aspif::read_program(program, table)?;
+    merge_read(tree, texts, lengths, table, rules, atoms, store, output)
 }

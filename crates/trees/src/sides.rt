@@ -12,7 +12,7 @@ ghost use Rattle.shapes.specs.Tree.{Shape, sum};
 ghost use Rattle.trees.specs.Sides.{Standing, place_below, Countable, both_taken, Subtree, EndTaken, pending, joined_sides, side_of, Adds, AddsTo, Joinable, Merged};
 
 use checker::judging;
-use splits::texts::Written;
+use splits::MergeFault;
 use words::LONGEST;
 
 // Where a side stands: the splits that are left below it, the words and rules of the program with the constraints so far, its atoms, and
@@ -26,43 +26,35 @@ pub struct Place {
     pub limit: usize,
 }
 
-// A side's text, which is still to be checked: its bytes, which stand in a buffer, the number of its refusal if it is not accepted, and how
-// many of the numbers, of the texts' bytes and of the lengths the side takes.
+// A side's text, which is still to be checked: its bytes, which stand in a buffer, the question that it fails if it is
+// not accepted, and how many of the numbers, of the texts' bytes and of the lengths the side takes.
 #[derive(Drop)]
 pub struct Pending {
     pub size: usize,
-    pub refusal: u8,
+    pub refusal: MergeFault,
     pub numbers: usize,
     pub bytes: usize,
     pub ends: usize,
 }
 
-// What a side comes to: a text, or 57, 58 or 59.
-#[derive(Drop)]
-pub enum Sided {
-    Text(Pending),
-    Refused(u8),
-}
-
 // An end's text; one that is too long is not accepted.
-fn take_end(texts: &[u8], lengths: &[u64], output: &mut [u8]) -> Sided
+fn take_end(texts: &[u8], lengths: &[u64], output: &mut [u8]) -> Result<Pending, MergeFault>
     requires ends { (1 ≤ length lengths.now) × (sum lengths.now ≡ length texts.now) }
     requires room { length output.old ≡ longest }
     ensures { EndTaken texts.now lengths.now output.new result }
 {
     let size = lengths[0] as usize;
     if LONGEST < size {
-        return Sided::Refused(57);
+        return Err(MergeFault::NotAccepted);
     }
     text::writing::put_bytes(output, 0, &texts[..size]);
-    let end = Pending {
+    Ok(Pending {
         size,
-        refusal: 57,
+        refusal: MergeFault::NotAccepted,
         numbers: 1,
         bytes: size,
         ends: 1,
-    };
-    Sided::Text(end)
+    })
 }
 
 // An atom as a literal.
@@ -107,17 +99,17 @@ fn first_refusal(
     place: Place,
     v: usize,
     first: &[u8],
-    one: u8,
-    two: u8,
+    one: MergeFault,
+    two: MergeFault,
     table: &mut [i32],
     store: &mut [i32],
-) -> u8
+) -> MergeFault
     requires place { (ws : List InputRule) × Standing 1 place table.old ws }
     requires atom { is_atom place.atoms v ≡ true }
     requires empty { store.old ≡ replicate (length store.old) (pos 0) }
     ensures empty { store.new ≡ replicate (length store.old) (pos 0) }
     ensures program { take place.used table.new ≡ take place.used table.old }
-    ensures number { (ws : List InputRule) → Standing 1 place table.old ws
+    ensures fault { (ws : List InputRule) → Standing 1 place table.old ws
         → result ≡ cond (is_accepted (length store.old) (demanding_as_written ws (pos v)) first.now) two one }
 {
     demand_atom(table, place.used, v);
@@ -127,14 +119,14 @@ fn first_refusal(
     two
 }
 
-// A merged text of so many bytes, with what both sides of its split take and the split's own number.
+// A merged text of so many bytes, with what both sides of its split take and the question that it may fail.
 fn both(size: usize, one: Pending, two: Pending) -> Pending
     requires { Countable one two }
     ensures { result ≡ both_taken size one two }
 {
     Pending {
         size,
-        refusal: 59,
+        refusal: MergeFault::StoreFull,
         numbers: 1 + one.numbers + two.numbers,
         bytes: one.bytes + two.bytes,
         ends: one.ends + two.ends,
@@ -152,7 +144,7 @@ fn merge_texts(
     table: &mut [i32],
     store: &mut [i32],
     output: &mut [u8],
-) -> Sided
+) -> Result<Pending, MergeFault>
     requires place { (ws : List InputRule) × Standing 1 place table.old ws }
     requires atom { is_atom place.atoms v ≡ true }
     requires counted { Countable one two }
@@ -179,17 +171,21 @@ fn merge_texts(
         store,
         output,
     ) {
-        Written::Refused(number) => {
-            if number == 58 {
-                return Sided::Refused(58);
-            }
-            Sided::Refused(first_refusal(place, v, first, one.refusal, two.refusal, table, store))
-        }
-        Written::Text(size) => {
+        Err(MergeFault::NotAccepted) => Err(first_refusal(
+            place,
+            v,
+            first,
+            one.refusal,
+            two.refusal,
+            table,
+            store,
+        )),
+        Err(fault) => Err(fault),
+        Ok(size) => {
             if place.limit < size {
-                return Sided::Refused(58);
+                return Err(MergeFault::NotWritable);
             }
-            Sided::Text(both(size, one, two))
+            Ok(both(size, one, two))
         }
     }
 }
@@ -200,12 +196,12 @@ fn join_sides(
     v: usize,
     one: Pending,
     first: &[u8],
-    other: Sided,
+    other: Result<Pending, MergeFault>,
     second: &[u8],
     table: &mut [i32],
     store: &mut [i32],
     output: &mut [u8],
-) -> Sided
+) -> Result<Pending, MergeFault>
     requires place { (ws : List InputRule) × Standing 1 place table.old ws }
     requires atom { is_atom place.atoms v ≡ true }
     requires texts { Joinable one other first.now second.now }
@@ -222,18 +218,16 @@ fn join_sides(
 {
     let size = one.size;
     match other {
-        Sided::Refused(number) => {
-            Sided::Refused(first_refusal(
-                place,
-                v,
-                &first[..size],
-                one.refusal,
-                number,
-                table,
-                store,
-            ))
-        }
-        Sided::Text(two) => {
+        Err(fault) => Err(first_refusal(
+            place,
+            v,
+            &first[..size],
+            one.refusal,
+            fault,
+            table,
+            store,
+        )),
+        Ok(two) => {
             let more = two.size;
             merge_texts(
                 place,
@@ -274,7 +268,7 @@ pub fn merge_side(
     table: &mut [i32],
     store: &mut [i32],
     output: &mut [u8],
-) -> Sided
+) -> Result<Pending, MergeFault>
     requires place { (ws : List InputRule) × Standing place.depth place table.old ws }
     requires tree { (t : Shape) × (rest : List ℕ) × Subtree place.depth place.atoms tree.now texts.now lengths.now t rest }
     requires empty { store.old ≡ replicate (length store.old) (pos 0) }
@@ -293,24 +287,20 @@ pub fn merge_side(
     let next = below(place);
     let mut first = [0u8; LONGEST];
     demand_atom(table, place.used, v);
-    match merge_side(next, &tree[1..], texts, lengths, table, store, &mut first) {
-        Sided::Refused(number) => Sided::Refused(number),
-        Sided::Text(one) => {
-            let mut second = [0u8; LONGEST];
-            forbid_atom(table, place.used, v);
-            let numbers = 1 + one.numbers;
-            let bytes = one.bytes;
-            let ends = one.ends;
-            let other = merge_side(
-                next,
-                &tree[numbers..],
-                &texts[bytes..],
-                &lengths[ends..],
-                table,
-                store,
-                &mut second,
-            );
-            join_sides(place, v, one, &first, other, &second, table, store, output)
-        }
-    }
+    let one = merge_side(next, &tree[1..], texts, lengths, table, store, &mut first)?;
+    let mut second = [0u8; LONGEST];
+    forbid_atom(table, place.used, v);
+    let numbers = 1 + one.numbers;
+    let bytes = one.bytes;
+    let ends = one.ends;
+    let other = merge_side(
+        next,
+        &tree[numbers..],
+        &texts[bytes..],
+        &lengths[ends..],
+        table,
+        store,
+        &mut second,
+    );
+    join_sides(place, v, one, &first, other, &second, table, store, output)
 }

@@ -9,8 +9,7 @@ use lib.Seq.{length-take-le, take_at}
 use Rattle.words.specs.Limits.{longest}
 use Rattle.aspif.specs.Rules.{InputRule, expand, atoms, table_words}
 use Rattle.aspif.specs.Reading.{Reading, program, read_text, program_answer, table_of}
-use Rattle.aspif.specs.declared.ProgramReading.{ProgramReading}
-use Rattle.aspif.specs.declared.ProgramReading.TheVariants as Answer
+use Rattle.aspif.specs.declared.ProgramCounts.{ProgramCounts}
 use Rattle.aspif.specs.declared.ProgramRefusal.{ProgramRefusal}
 use Rattle.drupe.specs.Texts.{Step, StepsRead, steps, text_of, steps_of}
 use Rattle.drupe.specs.Texts as Texts
@@ -22,9 +21,11 @@ use Rattle.checker.proofs.Whole.{text-accepted, accepted-steps}
 use Rattle.checker.proofs.Verdicts.{unread}
 use Rattle.trimming.specs.Service.{course_of, accepted, trimmed_steps, untouched, store_after, trimmed_read, trimmed_reading, trim}
 use Rattle.trimming.specs.Passing.{Reads}
-use Rattle.trimming.specs.declared.TrimAnswer.TheVariants.{Trimmed, RefusedProgram, Refused}
+use Rattle.aspif.specs.declared.Refusal.TheVariants.{Program, Service}
+use Rattle.trimming.specs.declared.TrimFault.TheVariants.{NotAccepted}
 use Rattle.trimming.proofs.Passes.{trimmed-settles, trimmed-order}
 use Rattle.trimming.proofs.Turns.{sub-course}
+use Rattle.std.specs.Prelude.{Result, Ok, Err}
 
 -- The proof
 
@@ -41,10 +42,10 @@ left_by t s proof ws (through n z b) e = (refl, refl)
 module _ (t s : ℕ) (proof : List ℕ) (ws : List InputRule) {table store : List ℤ} where
   -- 60
   pub not-accepted : is_accepted s ws proof ≡ false → table ≡ replicate t (pos 0) → store ≡ replicate s (pos 0)
-      → record { answer = Refused 60; text = proof; table = table; store = store } ≡ trimmed_reading t s proof (program ws)
+      → record { answer = Err (Service NotAccepted); text = proof; table = table; store = store } ≡ trimmed_reading t s proof (program ws)
   not-accepted a p q = rw (p, q) (by (steps_of proof) refl)
     where
-      by : (r : StepsRead) → steps_of proof ≡ r → untouched t s proof (Refused 60) ≡ trimmed_read t s proof ws r
+      by : (r : StepsRead) → steps_of proof ≡ r → untouched t s proof (Err (Service NotAccepted)) ≡ trimmed_read t s proof ws r
       by (steps ts) e = let f : accepted s ws ts ≡ false = sym (text-accepted s ws proof (steps ts) e) ∙ a in rw f refl
       by (Texts.refused ts k n) e = refl
 
@@ -52,11 +53,11 @@ module _ (t s : ℕ) (proof : List ℕ) (ws : List InputRule) {table store : Lis
   pub written : is_accepted s ws proof ≡ true → (text : List ℕ) (n : ℕ) → n ≤ length text → length text ≡ length proof
       → ((ts : List Step) → steps_of proof ≡ steps ts → Reads text n (trimmed_steps s ws ts))
       → {v : Verdict} → record { verdict = v; table = table; store = store } ≡ judged_reading longest t s (take n text) (program ws)
-      → record { answer = Trimmed n; text = take n text ++ replicate (length text - n) 0; table = table; store = store } ≡ trimmed_reading t s proof (program ws)
+      → record { answer = Ok n; text = take n text ++ replicate (length text - n) 0; table = table; store = store } ≡ trimmed_reading t s proof (program ws)
   written a text n h l f {v} c = by (accepted-steps s ws proof a)
     where
       by : (ts : List Step) × (steps_of proof ≡ steps ts) × (accepted s ws ts ≡ true)
-          → record { answer = Trimmed n; text = take n text ++ replicate (length text - n) 0; table = table; store = store } ≡ trimmed_reading t s proof (program ws)
+          → record { answer = Ok n; text = take n text ++ replicate (length text - n) 0; table = table; store = store } ≡ trimmed_reading t s proof (program ws)
       by (ts, e, b) =
           let us = trimmed_steps s ws ts in
           let x = (steps-exact longest proof ts).0 e in
@@ -71,12 +72,12 @@ module _ (t s : ℕ) (proof : List ℕ) (ws : List InputRule) {table store : Lis
 
 -- The program
 
-module _ (t s : ℕ) (text proof : List ℕ) {r : ProgramReading} (answer : r ≡ program_answer (read_text t text)) {table : List ℤ} (words : table ≡ table_of t (read_text t text)) where
-  pub program-unread : (x : ProgramRefusal) {store : List ℤ} → r ≡ Answer.Refused x → store ≡ replicate s (pos 0)
-      → record { answer = RefusedProgram x; text = proof; table = table; store = store } ≡ trim t s proof text
+module _ (t s : ℕ) (text proof : List ℕ) {r : Result ProgramCounts ProgramRefusal} (answer : r ≡ program_answer (read_text t text)) {table : List ℤ} (words : table ≡ table_of t (read_text t text)) where
+  pub program-unread : (x : ProgramRefusal) {store : List ℤ} → r ≡ Err x → store ≡ replicate s (pos 0)
+      → record { answer = Err (Program x); text = proof; table = table; store = store } ≡ trim t s proof text
   unfolding trim
   program-unread x {store} e z =
-      unread t text answer words (trimmed_reading t s proof) (λ q l. record { answer = RefusedProgram q; text = proof; table = l; store = store }) (λ k n. rw z refl) x e
+      unread t text answer words (trimmed_reading t s proof) (λ q l. record { answer = Err (Program q); text = proof; table = l; store = store }) (λ k n. rw z refl) x e
 
   pub program-trimmed : (ws : List InputRule) → read_text t text ≡ program ws → trimmed_reading t s proof (program ws) ≡ trim t s proof text
   unfolding trim

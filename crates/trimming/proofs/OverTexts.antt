@@ -20,19 +20,19 @@ use Rattle.checker.specs.Check.{counts_of, check_within, check}
 use Rattle.checker.specs.declared.Counts.{Counts}
 use Rattle.checker.specs.declared.Verdict.TheVariants.{Inconsistent}
 use Rattle.trimming.specs.Trims.{Sublist}
-use Rattle.trimming.specs.Service.{course_of, accepted, trimmed_steps, TrimLeft, untouched, store_after, trimmed_to, trimmed_read, trimmed_reading, trim}
+use Rattle.trimming.specs.Service.{TrimAnswer, course_of, accepted, trimmed_steps, TrimLeft, untouched, store_after, trimmed_to, trimmed_read, trimmed_reading, trim}
 use Rattle.trimming.specs.Claims.{Demand3Trimmed, TrimmedText, TrimmedTwice, Untouched}
-use Rattle.trimming.specs.declared.TrimAnswer.{TrimAnswer}
-use Rattle.trimming.specs.declared.TrimAnswer.TheVariants.{Trimmed, RefusedProgram, Refused}
+use Rattle.std.specs.Prelude.{Ok, Err}
+use Rattle.aspif.specs.declared.Refusal.TheVariants.{Service}
+use Rattle.trimming.specs.declared.TrimFault.TheVariants.{NotAccepted}
 use Rattle.trimming.proofs.Passes.{trimmed-settles, trimmed-order, trimmed-minimal, trimmed-stays}
 use Rattle.trimming.proofs.Proofs.{no-answer-set}
 use Rattle.trimming.proofs.Turns.{sub-append, sub_read, sub-course, sub-accepted}
 
 -- a proof was trimmed
 abbrev IsTrimmed : TrimAnswer → Type 0
-IsTrimmed (Trimmed n) = Unit {0}
-IsTrimmed (RefusedProgram x) = ⊥
-IsTrimmed (Refused k) = ⊥
+IsTrimmed (Ok n) = Unit {0}
+IsTrimmed (Err r) = ⊥
 
 -- what this tells of the two texts
 record Told (t s : ℕ) (proof : List ℕ) (r : Reading) : Type 0 where
@@ -51,7 +51,7 @@ told t s proof (program ws) i = by (steps_of proof) refl i
     by (Texts.refused ts k n) e i = absurd i
     by (steps ts) e i = on (accepted s ws ts) refl i
       where
-        on : (b : Bool) → accepted s ws ts ≡ b → IsTrimmed (cond b (trimmed_to t s proof ws (trimmed_steps s ws ts)) (untouched t s proof (Refused 60))).answer → Told t s proof (program ws)
+        on : (b : Bool) → accepted s ws ts ≡ b → IsTrimmed (cond b (trimmed_to t s proof ws (trimmed_steps s ws ts)) (untouched t s proof (Err (Service NotAccepted)))).answer → Told t s proof (program ws)
         on true g i = record { rules = ws; read = refl; before = ts; given = e; good = g; left = rw (e, g) refl }
         on false g i = absurd i
 
@@ -91,7 +91,7 @@ module _ (t s : ℕ) (text proof : List ℕ) (T : Told t s proof (read_text t te
       sub-accepted passing short s ws (onto o order) ∙ trimmed-minimal Step (accepted s ws) T.before T.good front u back e
 
   -- their text, trimmed again
-  again : record { answer = Trimmed (length (text_of us)); text = text_of us; table = table_words t ws; store = store_after t s proof (course_of s ws us) }
+  again : record { answer = Ok (length (text_of us)); text = text_of us; table = table_words t ws; store = store_after t s proof (course_of s ws us) }
       ≡ trim t s (text_of us) text
   unfolding trim
   again =
@@ -100,14 +100,14 @@ module _ (t s : ℕ) (text proof : List ℕ) (T : Told t s proof (read_text t te
       let p : text_of us ≡ text_of us ++ replicate (length (text_of us) - length (text_of us)) 0 = rw z (sym (append-nil (text_of us))) in
       let q : trimmed_to t s (text_of us) ws us ≡ trimmed_reading t s (text_of us) (program ws) =
       ap (trimmed_to t s (text_of us) ws) (sym (trimmed-stays (accepted s ws) T.before T.good)) ∙ rw (r, left-good) refl in
-      ap (λ (l : List ℕ). record { answer = Trimmed (length (text_of us)); text = l; table = table_words t ws; store = store_after t s proof (course_of s ws us) }) p
+      ap (λ (l : List ℕ). record { answer = Ok (length (text_of us)); text = l; table = table_words t ws; store = store_after t s proof (course_of s ws us) }) p
       ∙ q ∙ ap (trimmed_reading t s (text_of us)) (sym T.read)
 
 -- The claims
 
--- the contract's answer is `Trimmed`
+-- the contract's answer is `Ok`
 is-trimmed : (t s : ℕ) (proof : List ℕ) (r : Reading) {n : ℕ} {proof' : List ℕ} {table' store' : List ℤ}
-    → record { answer = Trimmed n; text = proof'; table = table'; store = store' } ≡ trimmed_reading t s proof r → Told t s proof r
+    → record { answer = Ok n; text = proof'; table = table'; store = store' } ≡ trimmed_reading t s proof r → Told t s proof r
 is-trimmed t s proof r e = told t s proof r (subst IsTrimmed (ap (λ (x : TrimLeft). x.answer) e) tt)
 
 pub demand3-trimmed : Demand3Trimmed
@@ -125,9 +125,9 @@ record Left (t s : ℕ) (proof proof' : List ℕ) (table' store' : List ℤ) (n 
   store : store' ≡ store_after t s proof (course_of s ws us)
 
 left_so : (t s : ℕ) (proof : List ℕ) (ws : List InputRule) (us : List Step) {n : ℕ} {proof' : List ℕ} {table' store' : List ℤ}
-    → record { answer = Trimmed n; text = proof'; table = table'; store = store' } ≡ trimmed_to t s proof ws us → Left t s proof proof' table' store' n ws us
+    → record { answer = Ok n; text = proof'; table = table'; store = store' } ≡ trimmed_to t s proof ws us → Left t s proof proof' table' store' n ws us
 left_so t s proof ws us {n} {proof'} e =
-    let j : ◌≡◌ {A = TrimAnswer} (Trimmed n) (Trimmed (length (text_of us))) = ap (λ (x : TrimLeft). x.answer) e in
+    let j : ◌≡◌ {A = TrimAnswer} (Ok n) (Ok (length (text_of us))) = ap (λ (x : TrimLeft). x.answer) e in
     let i : n ≡ length (text_of us) = cc in
     let p : proof' ≡ text_of us ++ replicate (length proof - n) 0 = ap (λ (x : TrimLeft). x.text) e ∙ ap (λ (k : ℕ). text_of us ++ replicate (length proof - k) 0) (sym i) in
     record {
@@ -145,7 +145,7 @@ module _ (t s : ℕ) (text proof : List ℕ) (T : Told t s proof (read_text t te
       let c = found t s text proof T (course_of s T.rules (us t s text proof T)) refl (left-good t s text proof T) in
       (c.0, rw (L.front, L.table, L.store) c.1)
 
-  twice-so : record { answer = Trimmed n; text = take n proof'; table = table'; store = store' } ≡ trim t s (take n proof') text
+  twice-so : record { answer = Ok n; text = take n proof'; table = table'; store = store' } ≡ trim t s (take n proof') text
   twice-so = rw (L.front, L.table, L.store, L.size) (again t s text proof T)
 
 pub trimmed-text : TrimmedText
@@ -202,7 +202,7 @@ untouched-otherwise text proof proof' table store table' store' r e f = by (read
     read ws (Texts.refused ts k n) q = so q
     read ws (steps ts) q = on (accepted s ws ts) q
       where
-        on : (b : Bool) → left ≡ cond b (trimmed_to t s proof ws (trimmed_steps s ws ts)) (untouched t s proof (Refused 60)) → Same
+        on : (b : Bool) → left ≡ cond b (trimmed_to t s proof ws (trimmed_steps s ws ts)) (untouched t s proof (Err (Service NotAccepted))) → Same
         on true q = absurd (f _ (ap (λ (x : TrimLeft). x.answer) q))
         on false q = so q
 

@@ -1,6 +1,6 @@
 -- What is claimed of trimming: over any list and test, then of proofs, then of the service by its contract.
 -- Assumes nothing.
-use Rattle.std.specs.Prelude.{◌≡◌, Bool, true, false, List, ◌∷◌, ◌++◌, ℕ, ◌-◌, ℤ, pos, length, take, replicate}
+use Rattle.std.specs.Prelude.{◌≡◌, Ok, Bool, true, false, List, ◌∷◌, ◌++◌, ℕ, ◌-◌, ℤ, pos, length, take, replicate}
 use Rattle.aspif.specs.Rules.{InputRule}
 use Rattle.aspif.specs.Reading.{program, read_text}
 use Rattle.drupe.specs.Texts.{Step, steps, text_of, steps_of}
@@ -10,9 +10,7 @@ use Rattle.checker.specs.Check.{check}
 use Rattle.checker.specs.declared.Counts.{Counts}
 use Rattle.checker.specs.declared.Verdict.TheVariants.{Inconsistent}
 use Rattle.trimming.specs.Trims.{trimmed, Sublist}
-use Rattle.trimming.specs.Service.{accepted, trimmed_steps, TrimmedProof}
-use Rattle.trimming.specs.declared.TrimAnswer.{TrimAnswer}
-use Rattle.trimming.specs.declared.TrimAnswer.TheVariants.{Trimmed}
+use Rattle.trimming.specs.Service.{TrimAnswer, accepted, trimmed_steps, TrimmedProof}
 
 -- "The result is an accepted proof", and the program then has no answer set
 abbrev pub TrimmedAccepted : Type 1
@@ -39,7 +37,7 @@ TrimmedAgain = (A : Type 0) (test : List A → Bool) (ts : List A) → test ts �
 abbrev pub Demand3Trimmed : Type 1
 Demand3Trimmed =
     (text proof proof' : List ℕ) (table store table' store' : List ℤ) (n : ℕ)
-    → TrimmedProof text proof proof' table store table' store' (Trimmed n)
+    → TrimmedProof text proof proof' table store table' store' (Ok n)
     → (ws : List InputRule) × (read_text (length table) text ≡ program ws) × NoneAsWritten ws
 
 -- the text written: of steps that stand in the proof in this order; the check with the same lengths finds it inconsistent and leaves table
@@ -62,18 +60,18 @@ pub record WrittenText (text proof proof' : List ℕ) (table store table' store'
 abbrev pub TrimmedText : Type 0
 TrimmedText =
     (text proof proof' : List ℕ) (table store table' store' : List ℤ) (n : ℕ)
-    → TrimmedProof text proof proof' table store table' store' (Trimmed n) → WrittenText text proof proof' table store table' store' n
+    → TrimmedProof text proof proof' table store table' store' (Ok n) → WrittenText text proof proof' table store table' store' n
 
 -- the text written, trimmed with the same lengths, stays as it is, and table and store are left as before
 abbrev pub TrimmedTwice : Type 0
 TrimmedTwice =
     (text proof proof' : List ℕ) (table store table' store' : List ℤ) (n : ℕ)
-    → TrimmedProof text proof proof' table store table' store' (Trimmed n)
-    → TrimmedProof text (take n proof') (take n proof') table store table' store' (Trimmed n)
+    → TrimmedProof text proof proof' table store table' store' (Ok n)
+    → TrimmedProof text (take n proof') (take n proof') table store table' store' (Ok n)
 
 -- "handed back untouched with 60 .. a program refusal leaves the text untouched too", and table and store are 0 throughout
 abbrev pub Untouched : Type 0
 Untouched =
     (text proof proof' : List ℕ) (table store table' store' : List ℤ) (r : TrimAnswer)
-    → TrimmedProof text proof proof' table store table' store' r → ((n : ℕ) → ¬ (r ≡ Trimmed n))
+    → TrimmedProof text proof proof' table store table' store' r → ((n : ℕ) → ¬ (r ≡ Ok n))
     → (proof' ≡ proof) × ((table' ≡ replicate (length table) (pos 0)) × (store' ≡ replicate (length store) (pos 0)))

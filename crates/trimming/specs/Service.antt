@@ -1,6 +1,6 @@
 -- What `trim_proof` answers and leaves, of the two texts and the lengths of table and store: document 02, Change 10.
 -- Assumes nothing.
-use Rattle.std.specs.Prelude.{◌≡◌, Bool, cond, List, [], ◌++◌, ℕ, ◌-◌, ℤ, pos, length, replicate}
+use Rattle.std.specs.Prelude.{◌≡◌, Result, Ok, Err, Bool, cond, List, [], ◌++◌, ℕ, ◌-◌, ℤ, pos, length, replicate}
 use Rattle.aspif.specs.Rules.{InputRule, expand, atoms, table_words}
 use Rattle.aspif.specs.Reading.{Reading, program, read_text}
 use Rattle.drupe.specs.Texts.{Step, StepsRead, steps, refused, text_of, steps_of}
@@ -8,8 +8,14 @@ use Rattle.derivation.specs.States.{start}
 use Rattle.nogoods.specs.Store.{store_words}
 use Rattle.runs.specs.Course.{Course, stopped, through, run_steps, ends_empty}
 use Rattle.trimming.specs.Trims.{trimmed}
-use Rattle.trimming.specs.declared.TrimAnswer.{TrimAnswer}
-use Rattle.trimming.specs.declared.TrimAnswer.TheVariants.{Trimmed, RefusedProgram, Refused}
+use Rattle.aspif.specs.declared.Refusal.{Refusal}
+use Rattle.aspif.specs.declared.Refusal.TheVariants.{Program, Service}
+use Rattle.trimming.specs.declared.TrimFault.{TrimFault}
+use Rattle.trimming.specs.declared.TrimFault.TheVariants.{NotAccepted}
+
+-- the trimmed text's bytes, or why the proof is refused
+abbrev pub TrimAnswer : Type 0
+TrimAnswer = Result ℕ (Refusal TrimFault)
 
 -- the course of steps with a store of so many words, without the text
 abbrev pub course_of : (size : ℕ) → List InputRule → List Step → Course
@@ -44,7 +50,7 @@ module _ (t s : ℕ) (proof : List ℕ) where
   -- "It stands in the lent text, with zero bytes after it."
   abbrev pub trimmed_to : List InputRule → List Step → TrimLeft
   trimmed_to ws us = record {
-    answer = Trimmed (length (text_of us));
+    answer = Ok (length (text_of us));
     text = text_of us ++ replicate (length proof - length (text_of us)) 0;
     table = table_words t ws;
     store = store_after (course_of s ws us);
@@ -52,12 +58,12 @@ module _ (t s : ℕ) (proof : List ℕ) where
 
   -- "An input that isn't accepted itself .. 60"
   abbrev pub trimmed_read : List InputRule → StepsRead → TrimLeft
-  trimmed_read ws (steps ts) = cond (accepted s ws ts) (trimmed_to ws (trimmed_steps s ws ts)) (untouched (Refused 60))
-  trimmed_read ws (refused before k n) = untouched (Refused 60)
+  trimmed_read ws (steps ts) = cond (accepted s ws ts) (trimmed_to ws (trimmed_steps s ws ts)) (untouched (Err (Service NotAccepted)))
+  trimmed_read ws (refused before k n) = untouched (Err (Service NotAccepted))
 
   -- "asked right after the program's own questions; a program refusal leaves the text untouched too"
   abbrev pub trimmed_reading : Reading → TrimLeft
-  trimmed_reading (Reading.refused k n) = untouched (RefusedProgram (record { number = k; line = n }))
+  trimmed_reading (Reading.refused k n) = untouched (Err (Program (record { fault = k; line = n })))
   trimmed_reading (program ws) = trimmed_read ws (steps_of proof)
 
   unfoldable pub trim : (program : List ℕ) → TrimLeft

@@ -1,4 +1,5 @@
-// Passes over a proof text: each line tried for removal, from the last to the first. A trial is the check of the whole text without it.
+// Passes over a proof text: each line tried for removal, from the last to the first. A trial is the check of the
+// whole text without it.
 ghost use Rattle.std.specs.Prelude.{◌≡◌, List, [], ◌<◌, ◌≤◌, pos, length, take, replicate};
 ghost use Rattle.words.specs.Limits.{longest, most_rules};
 ghost use Rattle.text.specs.Bytes.{class_of};
@@ -20,14 +21,7 @@ fn is_newline(b: u8, classes: &[u8; 256]) -> bool
     ensures { result ≡ is_newline (class_of b) }
 {
     let class = text::class_of(classes, b);
-    match class {
-        Class::Newline => true,
-        Class::Space => false,
-        Class::Minus => false,
-        Class::Digit(_) => false,
-        Class::Step(_) => false,
-        Class::Other => false,
-    }
+    matches!(class, Class::Newline)
 }
 
 // Where the line that ends at `end` begins: after the newline before it, or at 0.
@@ -37,14 +31,12 @@ fn line_start(text: &[u8], end: usize, classes: &[u8; 256]) -> usize
     ensures before { result < end }
     ensures line { LastLine text.now end result }
 {
-    let mut start = end - 1;
-    while 0 < start {
-        if is_newline(text[start - 1], classes) {
-            return start;
+    for before in (0..end - 1).rev() {
+        if is_newline(text[before], classes) {
+            return before + 1;
         }
-        start -= 1;
     }
-    start
+    0
 }
 
 // The text's first `len` bytes without those from `start` to `end`, at the front of the buffer, and how many they are.
@@ -58,8 +50,8 @@ fn write_without(trial: &mut [u8], text: &[u8], start: usize, end: usize, len: u
     writing::put_bytes(trial, front, &text[end..len])
 }
 
-// Takes the bytes from `start` to `end` out where the text is accepted without them. How many bytes are left of `len`; the store is 0
-// throughout, before and after.
+// Takes the bytes from `start` to `end` out where the text is accepted without them. How many bytes are left of
+// `len`; the store is 0 throughout, before and after.
 fn try_without(
     text: &mut [u8],
     start: usize,
@@ -119,8 +111,8 @@ fn pass(
     left
 }
 
-// "passes repeat until one removes none": how many bytes are left of the text. A pass that takes a line away makes it shorter. Inlined it would
-// have its arrays on the stack beside those of the check that comes after it.
+// "passes repeat until one removes none": how many bytes are left of the text. A pass that takes a line away makes it
+// shorter. Inlined it would have its arrays on the stack beside those of the check that comes after it.
 #[inline(never)]
 pub fn passes(
     text: &mut [u8],

@@ -1,11 +1,10 @@
 -- What the functions of src/ promise, and those of crate `search`: small numbers. No reader of a public contract needs it.
 -- Assumes nothing.
-use Rattle.std.specs.Prelude.{ℕ, ◌≤◌}
+use Rattle.std.specs.Prelude.{ℕ, ◌≤◌, Result, Ok, Err}
 use Rattle.words.specs.Limits.{entries}
 use Rattle.watches.specs.declared.turns.Turn.{Turn}
 use Rattle.watches.specs.declared.turns.Turn.TheVariants.{Stays, Moves, Goes, Gives, Violated}
-use Rattle.watches.specs.declared.turns.Visited.{Visited}
-use Rattle.watches.specs.declared.turns.Visited.TheVariants.{Clash, Queued}
+use Rattle.watches.specs.declared.turns.Clash.{Clash}
 
 -- the largest number that a cell holds
 abbrev pub largest_cell : ℕ
@@ -35,6 +34,6 @@ SmallTurn Goes = Unit
 SmallTurn (Gives c) = c ≤ largest_cell
 SmallTurn Violated = Unit
 
-abbrev pub SmallVisit : Visited → Type 0
-SmallVisit (Clash x n) = (x ≤ largest_cell) × (n ≤ entries)
-SmallVisit (Queued n) = n ≤ entries
+abbrev pub SmallVisit : Result ℕ Clash → Type 0
+SmallVisit (Ok n) = n ≤ entries
+SmallVisit (Err clash) = (clash.place ≤ largest_cell) × (clash.count ≤ entries)

@@ -1,10 +1,11 @@
-// The cells that all functions of the search are lent, read and written by total functions, and the regions in them. Cells of zeros are a right start.
-ghost use Rattle.std.specs.Prelude.{◌≤◌};
+// The cells that all functions of the search are lent, read and written by total functions, and the regions in them.
+// Cells of zeros are a right start.
+ghost use Rattle.std.specs.Prelude.{◌≤◌, IfSome};
 ghost use Rattle.watches.specs.Small.{largest_cell};
 
 use words::ENTRIES;
 
-// The largest number that a cell holds.
+// The largest number that a cell holds. A walk along links takes no more turns, whatever the cells hold.
 pub const LARGEST_CELL: usize = 4294967295;
 
 // As many numbers a cell can hold.
@@ -31,8 +32,9 @@ pub const PATH: usize = REASON;
 
 pub const BLOCKS: usize = REASON + MOST;
 
-// How many are true; how many of them were propagated; a nogood that the root violates, and whether the path leads to it; where the path begins; the
-// first place of a nogood that died since the store was closed up; before which place the nogoods stayed where they were then.
+// How many are true; how many of them were propagated; a nogood that the root violates, and whether the path leads to
+// it; where the path begins; the first place of a nogood that died since the store was closed up; before which place
+// the nogoods stayed where they were then.
 pub const COUNT: usize = 49280;
 
 pub const DONE: usize = 49281;
@@ -68,8 +70,8 @@ pub const LAST: usize = 49291;
 
 pub const BOTH: usize = 49292;
 
-// A number of 32 bits as a size.
-fn wide(number: u32) -> usize
+// A number of 32 bits as a size, by `as`, since `From` has none of these.
+pub fn wide(number: u32) -> usize
     ensures { result ≤ largest_cell }
 {
     number as usize
@@ -79,14 +81,24 @@ fn wide(number: u32) -> usize
 pub fn get(cells: &[u32], i: usize) -> usize
     ensures { result ≤ largest_cell }
 {
-    if i < cells.len() { wide(cells[i]) } else { 0 }
+    cells.get(i).map_or(0, |v| wide(*v))
 }
 
 // The cell at i becomes v, where both fit.
 pub fn put(cells: &mut [u32], i: usize, v: usize) {
-    if i < cells.len() {
-        if v <= LARGEST_CELL {
-            cells[i] = v as u32;
-        }
+    if let (Some(cell), Ok(word)) = (cells.get_mut(i), u32::try_from(v)) {
+        *cell = word;
     }
+}
+
+// What the cell at i has as one more, or 0 where it is none.
+pub fn get_some(cells: &[u32], i: usize) -> Option<usize>
+    ensures { IfSome result (λ v. v ≤ largest_cell) }
+{
+    get(cells, i).checked_sub(1)
+}
+
+// The cell at i becomes one more than v, or 0 where that is none.
+pub fn put_some(cells: &mut [u32], i: usize, v: Option<usize>) {
+    put(cells, i, v.map_or(0, |v| v.saturating_add(1)));
 }

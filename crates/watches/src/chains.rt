@@ -1,11 +1,11 @@
-// Chains of watches, through the cells of the nodes. A chain ends with 0.
-ghost use Rattle.std.specs.Prelude.{◌≤◌};
+// Chains of watches, through the cells of the nodes. A chain ends with none.
+ghost use Rattle.std.specs.Prelude.{◌≤◌, IfSome};
 ghost use Rattle.words.specs.Limits.{entries};
 ghost use Rattle.watches.specs.Small.{largest_cell, SmallTurn, SmallVisit};
 
-use crate::cells::{CODES, HEAD, LARGEST_CELL, LINK, WATCHED, get, put};
+use crate::cells::{CODES, HEAD, LARGEST_CELL, LINK, WATCHED, get, get_some, put, put_some};
 use crate::literals::{list_of, push};
-use crate::turns::{Turn, Visited, look};
+use crate::turns::{Clash, Turn, look};
 
 // The watch w of the nogood at x is in the chain of c.
 fn hang(cells: &mut [u32], x: usize, w: usize, c: usize)
@@ -13,7 +13,7 @@ fn hang(cells: &mut [u32], x: usize, w: usize, c: usize)
 {
     let first = get(cells, HEAD + c);
     put(cells, LINK + 2 * (x + w), first);
-    put(cells, HEAD + c, 2 * x + w + 1);
+    put_some(cells, HEAD + c, Some(2 * x + w));
 }
 
 // The same, and it is on a literal, told with where it stands.
@@ -25,13 +25,12 @@ pub fn link(cells: &mut [u32], x: usize, w: usize, c: usize, own: usize)
 }
 
 // What led to a node leads to the next one: the node before it, or the chain's start.
-fn skip(cells: &mut [u32], c: usize, last: usize, next: usize)
-    requires { (c ≤ largest_cell) × (last ≤ largest_cell) }
+fn skip(cells: &mut [u32], c: usize, last: Option<usize>, next: Option<usize>)
+    requires { (c ≤ largest_cell) × IfSome last (λ node. node ≤ largest_cell) }
 {
-    if last == 0 {
-        put(cells, HEAD + c, next);
-    } else {
-        put(cells, LINK + 2 * ((last - 1) / 2 + (last - 1) % 2), next);
+    match last {
+        Some(node) => put_some(cells, LINK + 2 * (node / 2 + node % 2), next),
+        None => put_some(cells, HEAD + c, next),
     }
 }
 
@@ -46,27 +45,30 @@ fn look_in_chain(store: &[i32], cells: &[u32], x: usize, w: usize, mark: usize) 
 }
 
 // The nogoods in the chain of a literal that is true now.
-pub fn visit_chain(store: &[i32], cells: &mut [u32], c: usize, start: usize, mark: usize) -> Visited
+pub fn visit_chain(
+    store: &[i32],
+    cells: &mut [u32],
+    c: usize,
+    start: usize,
+    mark: usize,
+) -> Result<usize, Clash>
     requires { (c ≤ largest_cell) × (start ≤ entries) }
     ensures { SmallVisit result }
 {
     let mut n = start;
-    let mut last = 0;
-    let mut node = get(cells, HEAD + c);
-    let mut fuel: usize = LARGEST_CELL;
-    while 0 < fuel {
-        if node == 0 {
-            return Visited::Queued(n);
-        }
-        fuel -= 1;
-        let here = node;
-        let x = (here - 1) / 2;
-        let w = (here - 1) % 2;
-        node = get(cells, LINK + 2 * (x + w));
+    let mut last = None;
+    let mut node = get_some(cells, HEAD + c);
+    for _ in 0..LARGEST_CELL {
+        let Some(here) = node else {
+            return Ok(n);
+        };
+        let x = here / 2;
+        let w = here % 2;
+        node = get_some(cells, LINK + 2 * (x + w));
         let turn = look_in_chain(store, cells, x, w, mark);
         match turn {
             Turn::Stays => {
-                last = here;
+                last = Some(here);
             }
             Turn::Moves(to, d) => {
                 skip(cells, c, last, node);
@@ -76,15 +78,15 @@ pub fn visit_chain(store: &[i32], cells: &mut [u32], c: usize, start: usize, mar
                 skip(cells, c, last, node);
             }
             Turn::Gives(d) => {
-                n = push(cells, n, d, x + 1);
-                last = here;
+                n = push(cells, n, d, Some(x));
+                last = Some(here);
             }
             Turn::Violated => {
-                return Visited::Clash(x + 1, n);
+                return Err(Clash { place: x, count: n });
             }
         }
     }
-    Visited::Queued(n)
+    Ok(n)
 }
 
 // A nogood that stayed where it was: its watches are on the same literals, in chains.
@@ -103,21 +105,18 @@ pub fn hang_again(cells: &mut [u32], x: usize)
 pub fn release_chain(cells: &mut [u32], c: usize)
     requires { c ≤ largest_cell }
 {
-    let mut last = 0;
-    let mut node = get(cells, HEAD + c);
-    let mut fuel: usize = LARGEST_CELL;
-    while 0 < fuel {
-        if node == 0 {
+    let mut last = None;
+    let mut node = get_some(cells, HEAD + c);
+    for _ in 0..LARGEST_CELL {
+        let Some(here) = node else {
             return;
-        }
-        fuel -= 1;
-        let here = node;
-        let x = (here - 1) / 2;
-        let w = (here - 1) % 2;
-        node = get(cells, LINK + 2 * (x + w));
+        };
+        let x = here / 2;
+        let w = here % 2;
+        node = get_some(cells, LINK + 2 * (x + w));
         let own = get(cells, WATCHED + 2 * (x + w)) % CODES;
         if own == c {
-            last = here;
+            last = Some(here);
         } else {
             skip(cells, c, last, node);
             hang(cells, x, w, own);

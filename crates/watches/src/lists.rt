@@ -8,10 +8,16 @@ use crate::chains::{hang_again, link, release_chain, visit_chain};
 use crate::literals::opposite;
 use crate::pieces::{add, clear_lists, clear_rows, has_rows};
 use crate::rows::{add_again, release_row, set_watched, visit_row, watched};
-use crate::turns::Visited;
+use crate::turns::Clash;
 
 // The nogoods that watch a literal that is true now.
-pub fn visit(store: &[i32], cells: &mut [u32], c: usize, start: usize, mark: usize) -> Visited
+pub fn visit(
+    store: &[i32],
+    cells: &mut [u32],
+    c: usize,
+    start: usize,
+    mark: usize,
+) -> Result<usize, Clash>
     requires { (c ≤ largest_cell) × (start ≤ entries) }
     ensures { SmallVisit result }
 {
@@ -33,9 +39,9 @@ pub fn watch(cells: &mut [u32], x: usize, c: usize, d: usize)
     }
     put(cells, LAST, x + 1);
     set_watched(cells, x, 0, c, d);
-    add(cells, d, 2 * x + 2, opposite(c));
+    add(cells, d, 2 * x + 1, opposite(c));
     if d != 0 {
-        add(cells, c, 2 * x + 1, opposite(d));
+        add(cells, c, 2 * x, opposite(d));
     }
 }
 

@@ -1,9 +1,12 @@
 // Literals as codes, which of them are true, and the nogoods in the store as the search reads them.
-ghost use Rattle.std.specs.Prelude.{◌≤◌, ◌<◌};
+ghost use Rattle.std.specs.Prelude.{◌≤◌, ◌<◌, IfSome};
 ghost use Rattle.words.specs.Limits.{entries};
 ghost use Rattle.watches.specs.Small.{largest_cell, last_code};
 
-use crate::cells::{CELLS, CODES, COUNT, LARGEST_CELL, MOST, ORDER, REASON, TRAIL, get, put};
+use crate::cells::{
+    CELLS, CODES, COUNT, LARGEST_CELL, MOST, ORDER, REASON, TRAIL, get, get_some, put, put_some,
+    wide,
+};
 
 // The code that is never true.
 const NEVER: usize = 8192;
@@ -12,7 +15,7 @@ const NEVER: usize = 8192;
 pub fn code_of(word: i32) -> usize
     ensures { result ≤ last_code }
 {
-    ((word as i64) + 4294967296) as usize % CODES
+    wide(word.cast_unsigned()) % CODES
 }
 
 // The code of the complement; of 0, a code that is never true.
@@ -26,11 +29,19 @@ pub fn opposite(c: usize) -> usize
     (CELLS - c) % CODES
 }
 
+// Where a literal stands among those that are true, if it is.
+pub fn order_of(cells: &[u32], c: usize) -> Option<usize>
+    requires { c ≤ largest_cell }
+    ensures { IfSome result (λ i. i ≤ largest_cell) }
+{
+    get_some(cells, ORDER + c)
+}
+
 // The literal is true.
 pub fn is_true(cells: &[u32], c: usize) -> bool
     requires { c ≤ largest_cell }
 {
-    get(cells, ORDER + c) != 0
+    order_of(cells, c).is_some()
 }
 
 // Where the literals of the nogood at x end, as far as that is a small number.
@@ -57,21 +68,20 @@ pub fn code_at(store: &[i32], j: usize, end: usize) -> usize
 pub fn count(cells: &[u32]) -> usize
     ensures { result ≤ entries }
 {
-    let n = get(cells, COUNT);
-    if n <= MOST { n } else { MOST }
+    get(cells, COUNT).min(MOST)
 }
 
-// A literal is true now, by a nogood or by none. How many are.
-pub fn push(cells: &mut [u32], n: usize, c: usize, reason: usize) -> usize
+// A literal is true now, by the nogood at a place or by none. How many are.
+pub fn push(cells: &mut [u32], n: usize, c: usize, reason: Option<usize>) -> usize
     requires { (n ≤ entries) × (c ≤ largest_cell) }
     ensures { result ≤ entries }
 {
     if MOST <= n {
         return n;
     }
-    put(cells, ORDER + c, n + 1);
+    put_some(cells, ORDER + c, Some(n));
     put(cells, TRAIL + n, c);
-    put(cells, REASON + n, reason);
+    put_some(cells, REASON + n, reason);
     n + 1
 }
 

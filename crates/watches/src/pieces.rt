@@ -1,8 +1,8 @@
 // The pieces of rows: where they stand, which are free, and one watch more or less in a row.
-ghost use Rattle.std.specs.Prelude.{◌≤◌};
+ghost use Rattle.std.specs.Prelude.{◌≤◌, IfSome};
 ghost use Rattle.watches.specs.Small.{largest_cell, most_watches, far_word, far_piece, far_watch};
 
-use crate::cells::{BOTH, CODES, FREE, HEAD, LACK, ORDER, ROWS, TAKEN, WIDTH, get, put};
+use crate::cells::{BOTH, CODES, FREE, HEAD, LACK, ORDER, ROWS, TAKEN, WIDTH, get, put, put_some};
 
 // With so many cells there are rows. With fewer all of them are near to the processor, and chains cost less.
 const MANY: usize = 200000;
@@ -45,6 +45,14 @@ pub fn piece_at(cells: &[u32], piece: usize) -> usize
     get(cells, ROWS) + product(piece, 2 * width_of(cells) + 1)
 }
 
+// A piece by its number, which is 0 where there is none.
+pub fn piece_of(number: usize) -> Option<usize>
+    requires { number ≤ largest_cell }
+    ensures { IfSome result (λ piece. piece ≤ largest_cell) }
+{
+    (0 < number).then_some(number)
+}
+
 // Where the last watch of a row stands.
 fn last_at(cells: &[u32], head: usize) -> usize
     requires { head ≤ 600000000000 }
@@ -53,62 +61,53 @@ fn last_at(cells: &[u32], head: usize) -> usize
     piece_at(cells, head / FILLS) + 2 * (head % FILLS)
 }
 
-// A piece that was not taken before; 0 where there is none.
-fn take_new(cells: &mut [u32]) -> usize
-    ensures { result ≤ largest_cell }
+// A piece that was not taken before, if there is one.
+fn take_new(cells: &mut [u32]) -> Option<usize>
+    ensures { IfSome result (λ piece. piece ≤ largest_cell) }
 {
     let taken = get(cells, TAKEN);
-    if taken < MOST_PIECES {
-        if piece_at(cells, taken + 2) < cells.len() {
-            put(cells, TAKEN, taken + 1);
-            return taken + 1;
-        }
+    if taken < MOST_PIECES && piece_at(cells, taken + 2) < cells.len() {
+        put(cells, TAKEN, taken + 1);
+        return Some(taken + 1);
     }
     put(cells, LACK, 1);
-    0
+    None
 }
 
-// A piece that is free; 0 where there is none.
-fn take(cells: &mut [u32]) -> usize
-    ensures { result ≤ largest_cell }
+// A piece that is free, if there is one.
+fn take(cells: &mut [u32]) -> Option<usize>
+    ensures { IfSome result (λ piece. piece ≤ largest_cell) }
 {
-    let free = get(cells, FREE);
-    if free == 0 {
+    let Some(free) = piece_of(get(cells, FREE)) else {
         return take_new(cells);
-    }
+    };
     let next = get(cells, piece_at(cells, free) + 1);
     put(cells, FREE, next);
-    free
+    Some(free)
 }
 
-// A row with room for one watch more; 0 where there is none.
-fn lengthen(cells: &mut [u32], head: usize) -> usize
+// A row with room for one watch more, if there is one.
+fn lengthen(cells: &mut [u32], head: usize) -> Option<usize>
     requires { head ≤ largest_cell }
-    ensures { result ≤ 600000000000 }
+    ensures { IfSome result (λ head. head ≤ 600000000000) }
 {
     let n = head % FILLS;
-    if 0 < n {
-        if n < width_of(cells) {
-            return head + 1;
-        }
+    if 0 < n && n < width_of(cells) {
+        return Some(head + 1);
     }
-    let piece = take(cells);
-    if piece == 0 {
-        return 0;
-    }
+    let piece = take(cells)?;
     put(cells, piece_at(cells, piece) + 1, head / FILLS);
-    FILLS * piece + 1
+    Some(FILLS * piece + 1)
 }
 
 // A watch goes into the row of c.
 pub fn add(cells: &mut [u32], c: usize, node: usize, beside: usize) {
-    let head = lengthen(cells, get(cells, HEAD + c % CODES));
-    if head == 0 {
+    let Some(head) = lengthen(cells, get(cells, HEAD + c % CODES)) else {
         return;
-    }
+    };
     let at = last_at(cells, head);
     put(cells, at, beside);
-    put(cells, at + 1, node);
+    put_some(cells, at + 1, Some(node));
     put(cells, HEAD + c % CODES, head);
 }
 
@@ -122,11 +121,9 @@ fn shorten(cells: &mut [u32], c: usize, head: usize)
     }
     let piece = head / FILLS;
     let at = piece_at(cells, piece);
-    let next = get(cells, at + 1);
-    let rest = if next == 0 {
-        0
-    } else {
-        FILLS * next + width_of(cells)
+    let rest = match piece_of(get(cells, at + 1)) {
+        Some(next) => FILLS * next + width_of(cells),
+        None => 0,
     };
     put(cells, HEAD + c, rest);
     put(cells, at + 1, get(cells, FREE));
@@ -171,8 +168,8 @@ pub fn lay(cells: &mut [u32]) {
 
 // No list has a watch.
 pub fn clear_lists(cells: &mut [u32]) {
-    if ORDER <= cells.len() {
-        words::zero_cells(&mut cells[..ORDER]);
+    if let Some(heads) = cells.get_mut(HEAD..ORDER) {
+        words::zero_all(heads);
     }
 }
 

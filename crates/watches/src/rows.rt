@@ -4,10 +4,12 @@ ghost use Rattle.std.specs.Prelude.{◌≤◌};
 ghost use Rattle.words.specs.Limits.{entries};
 ghost use Rattle.watches.specs.Small.{largest_cell, last_code, most_watches, far_word, far_piece, far_watch, SmallVisit};
 
-use crate::cells::{BOTH, CELLS, CODES, HEAD, LACK, LARGEST_CELL, LAST, ORDER, get, put};
-use crate::literals::{end_of, list_of, opposite, push};
-use crate::pieces::{FILLS, add, clear_rows, has_rows, narrow, piece_at, remove, width_of};
-use crate::turns::{Turn, Visited, look};
+use crate::cells::{BOTH, CELLS, CODES, HEAD, LACK, LARGEST_CELL, LAST, get, get_some, put};
+use crate::literals::{end_of, list_of, opposite, order_of, push};
+use crate::pieces::{
+    FILLS, add, clear_rows, has_rows, narrow, piece_at, piece_of, remove, width_of,
+};
+use crate::turns::{Clash, Turn, look};
 
 // The literal on which the nogood at x has its watch w.
 pub fn watched(cells: &[u32], x: usize, w: usize) -> usize
@@ -43,10 +45,10 @@ fn with_code(own: usize, c: usize) -> usize
 
 // A watch goes into the row of a literal, on its own one, which is told with where it stands, beside the other.
 fn move_to(cells: &mut [u32], to: usize, node: usize, own: usize, other: usize)
-    requires { (1 ≤ node) × (node ≤ largest_cell) × (other ≤ largest_cell) }
+    requires { (node ≤ largest_cell) × (other ≤ largest_cell) }
 {
     add(cells, to, node, with_code(own, opposite(other)));
-    set_watched(cells, (node - 1) / 2, (node - 1) % 2, own, other);
+    set_watched(cells, node / 2, node % 2, own, other);
 }
 
 // The watch at a place in the row of c, beside which no literal is false by an assumption. In a long row one that is
@@ -59,16 +61,15 @@ fn treat(
     n: usize,
     mark: usize,
     choosy: bool,
-) -> Visited
+) -> Result<usize, Clash>
     requires { (c ≤ largest_cell) × (at ≤ far_watch) × (n ≤ entries) }
     ensures { SmallVisit result }
 {
-    let node = get(cells, at + 1);
-    if node == 0 {
-        return Visited::Queued(n);
-    }
-    let x = (node - 1) / 2;
-    let w = (node - 1) % 2;
+    let Some(node) = get_some(cells, at + 1) else {
+        return Ok(n);
+    };
+    let x = node / 2;
+    let w = node % 2;
     let other = watched(cells, x, 1 - w);
     let against = opposite(other);
     let beside = get(cells, at);
@@ -76,22 +77,22 @@ fn treat(
     match turn {
         Turn::Stays => {
             put(cells, at, with_code(beside, against));
-            Visited::Queued(n)
+            Ok(n)
         }
         Turn::Moves(to, own) => {
             remove(cells, c, at);
             move_to(cells, to, node, own, other);
-            Visited::Queued(n)
+            Ok(n)
         }
         Turn::Goes => {
             remove(cells, c, at);
-            Visited::Queued(n)
+            Ok(n)
         }
         Turn::Gives(_) => {
             put(cells, at, with_code(beside, against));
-            Visited::Queued(push(cells, n, against, x + 1))
+            Ok(push(cells, n, against, Some(x)))
         }
-        Turn::Violated => Visited::Clash(x + 1, n),
+        Turn::Violated => Err(Clash { place: x, count: n }),
     }
 }
 
@@ -104,13 +105,13 @@ fn pass(
     n: usize,
     mark: usize,
     choosy: bool,
-) -> Visited
+) -> Result<usize, Clash>
     requires { (c ≤ largest_cell) × (at ≤ far_watch) × (n ≤ entries) }
     ensures { SmallVisit result }
 {
     let against = get(cells, at) % CODES;
-    if mark < get(cells, ORDER + against) {
-        return Visited::Queued(n);
+    if order_of(cells, against).is_some_and(|i| mark <= i) {
+        return Ok(n);
     }
     treat(store, cells, c, at, n, mark, choosy)
 }
@@ -125,57 +126,43 @@ fn visit_piece(
     start: usize,
     mark: usize,
     choosy: bool,
-) -> Visited
+) -> Result<usize, Clash>
     requires { (c ≤ largest_cell) × (at ≤ far_piece) × (held ≤ most_watches) × (start ≤ entries) }
     ensures { SmallVisit result }
 {
     let mut n = start;
-    let mut i = held;
-    while 0 < i {
-        let given = pass(store, cells, c, at + 2 * i, n, mark, choosy);
-        i -= 1;
-        match given {
-            Visited::Clash(x, end) => {
-                return Visited::Clash(x, end);
-            }
-            Visited::Queued(end) => {
-                n = end;
-            }
-        }
+    for i in (0..held).rev() {
+        n = pass(store, cells, c, at + 2 * i + 2, n, mark, choosy)?;
     }
-    Visited::Queued(n)
+    Ok(n)
 }
 
 // The nogoods in the row of a literal that is true now.
-pub fn visit_row(store: &[i32], cells: &mut [u32], c: usize, start: usize, mark: usize) -> Visited
+pub fn visit_row(
+    store: &[i32],
+    cells: &mut [u32],
+    c: usize,
+    start: usize,
+    mark: usize,
+) -> Result<usize, Clash>
     requires { (c ≤ largest_cell) × (start ≤ entries) }
     ensures { SmallVisit result }
 {
     let head = get(cells, HEAD + c);
     let width = width_of(cells);
     let mut n = start;
-    let mut piece = head / FILLS;
+    let mut next = piece_of(head / FILLS);
     let mut held = head % FILLS;
-    let mut fuel: usize = LARGEST_CELL;
-    while 0 < fuel {
-        if piece == 0 {
-            return Visited::Queued(n);
-        }
-        fuel -= 1;
+    for _ in 0..LARGEST_CELL {
+        let Some(piece) = next else {
+            return Ok(n);
+        };
         let at = piece_at(cells, piece);
-        piece = get(cells, at + 1);
-        let given = visit_piece(store, cells, c, at, held, n, mark, 0 < piece);
+        next = piece_of(get(cells, at + 1));
+        n = visit_piece(store, cells, c, at, held, n, mark, next.is_some())?;
         held = width;
-        match given {
-            Visited::Clash(x, end) => {
-                return Visited::Clash(x, end);
-            }
-            Visited::Queued(end) => {
-                n = end;
-            }
-        }
     }
-    Visited::Queued(n)
+    Ok(n)
 }
 
 // The same in rows. A nogood of fewer than two literals is watched by the literal of code 0 alone.
@@ -186,9 +173,9 @@ pub fn add_again(cells: &mut [u32], x: usize)
     let d = watched(cells, x, 1);
     let first = list_of(cells, c, d);
     let second = list_of(cells, d, c);
-    add(cells, second, 2 * x + 2, opposite(c));
+    add(cells, second, 2 * x + 1, opposite(c));
     if d != 0 {
-        add(cells, first, 2 * x + 1, opposite(d));
+        add(cells, first, 2 * x, opposite(d));
     }
 }
 
@@ -207,6 +194,7 @@ fn refit(store: &[i32], cells: &mut [u32]) {
     clear_rows(cells);
     let end = get(cells, LAST);
     let mut x = 0;
+    // No `for`: each record says where the next one begins.
     while x < end {
         let next = end_of(store, x);
         add_live(store, cells, x);
@@ -216,13 +204,7 @@ fn refit(store: &[i32], cells: &mut [u32]) {
 
 // No piece is lacking, if pieces can be less wide.
 pub fn fit(store: &[i32], cells: &mut [u32]) {
-    if !has_rows(cells) {
-        return;
-    }
-    if get(cells, LACK) == 0 {
-        return;
-    }
-    if 1 < width_of(cells) {
+    if has_rows(cells) && get(cells, LACK) != 0 && 1 < width_of(cells) {
         refit(store, cells);
     }
 }
@@ -231,11 +213,10 @@ pub fn fit(store: &[i32], cells: &mut [u32]) {
 fn release_one(cells: &mut [u32], c: usize, at: usize)
     requires { (c ≤ largest_cell) × (at ≤ far_watch) }
 {
-    let node = get(cells, at + 1);
-    if node == 0 {
+    let Some(node) = get_some(cells, at + 1) else {
         return;
-    }
-    let own = watched(cells, (node - 1) / 2, (node - 1) % 2);
+    };
+    let own = watched(cells, node / 2, node % 2);
     if own == c {
         return;
     }
@@ -248,10 +229,8 @@ fn release_one(cells: &mut [u32], c: usize, at: usize)
 fn release_piece(cells: &mut [u32], c: usize, at: usize, held: usize)
     requires { (c ≤ largest_cell) × (at ≤ far_piece) × (held ≤ most_watches) }
 {
-    let mut i = held;
-    while 0 < i {
-        release_one(cells, c, at + 2 * i);
-        i -= 1;
+    for i in (0..held).rev() {
+        release_one(cells, c, at + 2 * i + 2);
     }
 }
 
@@ -261,16 +240,14 @@ pub fn release_row(cells: &mut [u32], c: usize)
 {
     let head = get(cells, HEAD + c);
     let width = width_of(cells);
-    let mut piece = head / FILLS;
+    let mut next = piece_of(head / FILLS);
     let mut held = head % FILLS;
-    let mut fuel: usize = LARGEST_CELL;
-    while 0 < fuel {
-        if piece == 0 {
+    for _ in 0..LARGEST_CELL {
+        let Some(piece) = next else {
             return;
-        }
-        fuel -= 1;
+        };
         let at = piece_at(cells, piece);
-        piece = get(cells, at + 1);
+        next = piece_of(get(cells, at + 1));
         release_piece(cells, c, at, held);
         held = width;
     }

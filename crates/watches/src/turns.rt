@@ -1,15 +1,16 @@
 // What becomes of a watch on a literal that is true now.
-ghost use Rattle.std.specs.Prelude.{◌≤◌};
+ghost use Rattle.std.specs.Prelude.{ℕ, ◌≤◌, ◌<◌, IfSome};
 ghost use Rattle.watches.specs.Small.{largest_cell, last_code, far_word, SmallTurn};
 
-use crate::cells::{CODES, ORDER, get};
-use crate::literals::{code_of, end_of, is_true, opposite};
+use crate::cells::CODES;
+use crate::literals::{code_of, end_of, is_true, opposite, order_of};
+use std::ops::Range;
 
-// What a walk along a list gave: a nogood that is violated, and how many literals are true; or only that.
-#[derive(Drop)]
-pub enum Visited {
-    Clash(usize, usize),
-    Queued(usize),
+// A nogood that is violated: its place, and how many literals are true.
+#[derive(Clone, Copy)]
+pub struct Clash {
+    pub place: usize,
+    pub count: usize,
 }
 
 // What becomes of a watch on a literal that is true: it stays, since the other literal is false; it moves to the list
@@ -24,68 +25,50 @@ pub enum Turn {
     Violated,
 }
 
-// From j on, the place of a literal that is not true, other than one given; else the end.
-pub fn open_from(store: &[i32], cells: &[u32], j: usize, end: usize, other: usize) -> usize
-    requires { end ≤ far_word }
-    ensures { result ≤ end }
+// Among the places, the first of a literal that is not true, other than one that may be given.
+pub fn find_open(
+    store: &[i32],
+    cells: &[u32],
+    mut places: Range<usize>,
+    other: Option<usize>,
+) -> Option<usize>
+    ensures { IfSome result (λ j. j < places.end) }
 {
-    let mut i = j;
-    while i < end {
-        let c = code_of(words::word_at(store, i));
-        if c != other {
-            if !is_true(cells, c) {
-                return i;
-            }
-        }
-        i += 1;
-    }
-    end
+    places.find(|j| {
+        let c = code_of(words::word_at(store, *j));
+        Some(c) != other && !is_true(cells, c)
+    })
 }
 
 // The same from a place in the middle on and round to the front, so that what was passed over before is not read again.
-fn open_around(
+fn find_open_around(
     store: &[i32],
     cells: &[u32],
     from: usize,
     middle: usize,
     end: usize,
     other: usize,
-) -> usize
-    requires { (middle ≤ far_word) × (end ≤ far_word) }
-    ensures { result ≤ end }
+) -> Option<usize>
+    ensures { IfSome result (λ j. j < end) }
 {
-    let later = open_from(store, cells, middle, end, other);
-    if later < end {
+    let later = find_open(store, cells, middle..end, Some(other));
+    if later.is_some() {
         return later;
     }
-    let earlier = open_from(store, cells, from, middle, other);
-    if earlier < middle {
-        if earlier < end {
-            return earlier;
-        }
-    }
-    end
+    find_open(store, cells, from..middle.min(end), Some(other))
 }
 
-// From a place on, that of a literal that is false, other than one given; else the end.
-fn false_from(store: &[i32], cells: &[u32], from: usize, end: usize, other: usize) -> usize
-    requires { end ≤ far_word }
-    ensures { result ≤ end }
+// Among the places, the first of a literal that is false, other than one given.
+fn find_false(store: &[i32], cells: &[u32], mut places: Range<usize>, other: usize) -> Option<usize>
+    ensures { IfSome result (λ j. j < places.end) }
 {
-    let mut i = from;
-    while i < end {
-        let c = code_of(words::word_at(store, i));
-        if c != other {
-            if is_true(cells, opposite(c)) {
-                return i;
-            }
-        }
-        i += 1;
-    }
-    end
+    places.find(|j| {
+        let c = code_of(words::word_at(store, *j));
+        c != other && is_true(cells, opposite(c))
+    })
 }
 
-// The place of a literal to watch in place of one in the middle that is true; else the end. Of two literals both are
+// The place of a literal to watch in place of one in the middle that is true, if there is one. Of two literals both are
 // watched. Where that is asked for, one that is false is taken before others: its list is not gone through as long as
 // it is.
 fn another(
@@ -96,27 +79,27 @@ fn another(
     end: usize,
     other: usize,
     choosy: bool,
-) -> usize
+) -> Option<usize>
     requires { (from ≤ 4294967297) × (middle ≤ far_word) × (end ≤ far_word) }
-    ensures { result ≤ end }
+    ensures { IfSome result (λ j. j < end) }
 {
     if end == from + 2 {
-        return end;
+        return None;
     }
     if choosy {
-        let j = false_from(store, cells, from, end, other);
-        if j < end {
+        let j = find_false(store, cells, from..end, other);
+        if j.is_some() {
             return j;
         }
     }
-    open_around(store, cells, from, middle, end, other)
+    find_open_around(store, cells, from, middle, end, other)
 }
 
 // Where a literal at j stands in a nogood whose first is at a place.
 fn position(from: usize, j: usize) -> usize
     ensures { result ≤ last_code }
 {
-    if from < j { (j - from) % CODES } else { 0 }
+    j.saturating_sub(from) % CODES
 }
 
 // What becomes of a watch of the nogood at x, on its own literal, told with where it stands, beside another watched
@@ -133,20 +116,19 @@ pub fn look(
     requires { (x ≤ largest_cell) × (own ≤ far_word) × (other ≤ largest_cell) }
     ensures { SmallTurn result }
 {
-    let at = get(cells, ORDER + opposite(other));
-    if mark < at {
-        return Turn::Stays;
-    }
-    if 0 < at {
-        return Turn::Moves(other, own);
+    if let Some(i) = order_of(cells, opposite(other)) {
+        return if mark <= i {
+            Turn::Stays
+        } else {
+            Turn::Moves(other, own)
+        };
     }
     if !words::is_positive(words::word_at(store, x)) {
         return Turn::Goes;
     }
     let from = x + 2;
     let end = end_of(store, x);
-    let j = another(store, cells, from, from + own / CODES, end, other, choosy);
-    if j < end {
+    if let Some(j) = another(store, cells, from, from + own / CODES, end, other, choosy) {
         let d = code_of(words::word_at(store, j));
         return Turn::Moves(d, CODES * position(from, j) + d);
     }

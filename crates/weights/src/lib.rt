@@ -22,10 +22,8 @@ pub fn sum_of(pairs: &[i32]) -> usize
     ensures { result ≡ sum (paired pairs.now) }
 {
     let mut total = 0;
-    let mut i = 0;
-    while i + 1 < pairs.len() {
-        total += words::variable_of(pairs[i + 1]);
-        i += 2;
+    for pair in pairs.chunks_exact(2) {
+        total += words::variable_of(pair[1]);
     }
     total
 }
@@ -34,17 +32,17 @@ pub fn sum_of(pairs: &[i32]) -> usize
 fn stands_at(list: &[i32], j: usize, x: i32) -> bool
     ensures { result ≡ starts_with x (drop j list.now) }
 {
-    if j < list.len() {
-        return words::is_same(list[j], x);
+    match list.get(j) {
+        Some(y) => words::is_same(*y, x),
+        None => false,
     }
-    false
 }
 
 // The smaller of two numbers.
 pub fn smaller(a: usize, b: usize) -> usize
     ensures { result ≡ min a b }
 {
-    if a < b { a } else { b }
+    a.min(b)
 }
 
 // The literals are those of one of the bodies: one merge of two lists, with the sum and the least weight.
@@ -54,15 +52,12 @@ pub fn is_body(pairs: &[i32], bound: usize, list: &[i32]) -> bool
 {
     let mut total = 0;
     let mut least = NO_LEAST;
-    let mut i = 0;
     let mut j = 0;
-    while i + 1 < pairs.len() {
-        let next = stands_at(list, j, pairs[i]);
-        let w = words::variable_of(pairs[i + 1]);
-        i += 2;
-        if next {
+    for pair in pairs.chunks_exact(2) {
+        if stands_at(list, j, pair[0]) {
+            let w = words::variable_of(pair[1]);
             total += w;
-            least = smaller(least, w);
+            least = least.min(w);
             j += 1;
         }
     }

@@ -9,11 +9,14 @@ use Prim.Native.Nat.{zero, suc, ◌≤◌}
 use native.Mathlib.Omega.{arith}
 use lib.Dec.{T, ltb, eqb→eq, eqb_refl}
 use lib.IntN.{ℤ, pos, negsuc, neg_ℤ-neg_ℤ}
+use lib.Pointwise.{pointwise}
 use lib.Signed.{lt_z}
+use Rattle.std.specs.Ordering.{int_eq}
+use Rattle.std.specs.Cmp.Rules.{signed_items}
 use borrow.Author.Tests.{ltb-true}
 use Rattle.words.specs.Lists.{◌∈◌}
 use Rattle.words.specs.Literals.{variable, complement, same, same_list, has, insert, insert_all, ascending}
-use Rattle.words.proofs.Lists.{Decides, reworded, and-decides, any-decides, passed}
+use Rattle.words.proofs.Lists.{Decides, reworded, and-decides, any-decides, passed, same_test}
 
 -- Tests
 
@@ -121,3 +124,9 @@ ascending← l m = insert_all← [] l (inr m)
 pub positive : (z : ℤ) → T (lt_z (pos 0) z) → (z ≡ pos (variable z)) × (1 ≤ variable z)
 positive (pos n) t = (refl, ltb-true 0 n ((passed (ltb 0 n)).to t))
 positive (negsuc n) t = absurd t
+
+-- `==` of two slices of words
+pub same_list-is : (a b : List ℤ) → pointwise int_eq a b ≡ same_list a b
+same_list-is a b =
+    let d = signed_items a b in
+    same_test (passed (pointwise int_eq a b)) (same_list-decides a b) d.0 d.1

@@ -1,6 +1,8 @@
 -- Tests over a list, and what they keep of it.
 -- Assumes nothing.
-use Rattle.std.specs.Prelude.{Bool, true, false, cond, ◌&&◌, ◌||◌, ℕ, ltb, leb}
+use Rattle.std.specs.Prelude.{Bool, true, cond, ◌&&◌, ℕ, ltb, leb}
+-- `any f l`: some element passes; `all f l`: every element does; `filter f l`: those that pass, in their order
+pub use Rattle.std.specs.List.{list_any as any, list_all as all, filter}
 use mathlib.Core.List.{List, [], ◌∷◌, ◌++◌, Memᴰ}
 
 infix 4 ◌∈◌
@@ -9,21 +11,6 @@ abbrev pub ◌∈◌ : {A : Type 0} → A → List A → Type 0
 x ∈ l = Memᴰ x l
 
 module _ {A : Type 0} where
-  -- some element passes
-  abbrev pub any : (A → Bool) → List A → Bool
-  any f [] = false
-  any f (x ∷ l) = f x || any f l
-
-  -- every element passes
-  abbrev pub all : (A → Bool) → List A → Bool
-  all f [] = true
-  all f (x ∷ l) = f x && all f l
-
-  -- those that pass, in their order
-  abbrev pub filter : (A → Bool) → List A → List A
-  filter f [] = []
-  filter f (x ∷ l) = cond (f x) (x ∷ filter f l) (filter f l)
-
   -- all but the first that passes
   abbrev pub drop_first : (A → Bool) → List A → List A
   drop_first f [] = []

@@ -1,7 +1,6 @@
 use mathlib.Core.Path.{◌≡◌, sym, ◌∙◌, ap}
 use mathlib.Core.Bool.{true}
 use native.Mathlib.Omega.{arith}
-use lib.ListN.{replicate}
 use Rattle.words.specs.Limits.{entries}
 use Rattle.aspif.specs.Rules.{atoms}
 use Rattle.words.specs.Lists.{ascends}
@@ -24,41 +23,33 @@ told : (c : After-ascends_within)
 told c = rw c.largest_atom-atoms.ensures at c.ascends_within.ensures
 
 pub returns-then-not-is_readable : goal.returns-then-not-is_readable
-returns-then-not-is_readable c = refused-41 _ _ _ _ _ c.zero_bytes.ensures (sym c.is_readable.ensures ∙ c.if-not-is_readable.true)
+returns-then-not-is_readable c = refused-41 _ _ _ _ _ c.zero_all.ensures (sym c.is_readable.ensures ∙ c.if-not-is_readable.true)
 
 pub largest_atom-atoms-requires : goal.largest_atom-atoms-requires
 largest_atom-atoms-requires c = sound-rules _ _ (sound c)
 
 pub returns-then-not-ascends_within : goal.returns-then-not-ascends_within
 returns-then-not-ascends_within c =
-    let d = (goal.at.returns-then-not-ascends_within c).After-ascends_within in
-    refused-42 _ _ _ _ _ d.zero_bytes.ensures (sound (goal.at.returns-then-not-ascends_within c).Else-not-is_readable) (sym (told d) ∙ c.if-not-ascends_within.true)
+    let g = goal.at.returns-then-not-ascends_within c in
+    refused-42 _ _ _ _ _ c.zero_all.ensures (sound g.Else-not-is_readable) (sym (told g.After-ascends_within) ∙ c.if-not-ascends_within.true)
 
 pub returns-then-marks-ne-ENTRIES : goal.returns-then-marks-ne-ENTRIES
 returns-then-marks-ne-ENTRIES c =
-    let d = (goal.at.returns-then-marks-ne-ENTRIES c).After-ascends_within in
-    let z = c in
-    refused-43 _ _ _ _ _ z.zero_bytes.ensures (sound (goal.at.returns-then-marks-ne-ENTRIES c).Else-not-is_readable) (sym (told d) ∙ c.if-not-ascends_within.false) (λ e. c.if-marks-ne-ENTRIES.true (z.zero_bytes.auto.bytes ∙ e))
-
-pub mark_least-requires : goal.mark_least-requires
-mark_least-requires c = let g = c in
-    let d = c in
-    let z = c in record { rules_value = sound (goal.at.mark_least-requires c).Else-not-is_readable; most_value = d.largest_atom-atoms.ensures; marks_len = (g.if-marks-ne-ENTRIES.false, z.zero_bytes.ensures ∙ ap (λ k. replicate k 0) (sym z.zero_bytes.auto.bytes)) }
+    let g = goal.at.returns-then-marks-ne-ENTRIES c in
+    refused-43 _ _ _ _ _ c.zero_all.ensures (sound g.Else-not-is_readable) (sym (told g.After-ascends_within) ∙ c.if-not-ascends_within.false) (λ e. c.if-marks-ne-ENTRIES.true (c.zero_all.auto.items ∙ e))
 
 pub judge-requires : goal.judge-requires
-judge-requires c = let d = c in
-    let a = d.args in record { program = (sound (goal.at.judge-requires c).Else-not-is_readable, rw d.largest_atom-atoms.ensures (atoms-small a.rules a.table.now (sound-rules _ _ (sound (goal.at.judge-requires c).Else-not-is_readable)))) }
+judge-requires c =
+    let a = c.args in
+    let s = sound (goal.at.judge-requires c).Else-not-is_readable in
+    record { program = (s, rw c.largest_atom-atoms.ensures (atoms-small a.rules a.table.now (sound-rules _ _ s))) }
 
 pub returns : goal.returns
 returns c =
-    let k = c in
-    let m = c in
-    let g = c in
-    let d = (goal.at.returns c).After-ascends_within in
-    let z = c in
-    let a = z.args in
-    let s = sound (goal.at.returns c).Else-not-is_readable in
-    let w = sym (told d) ∙ g.if-not-ascends_within.false in
+    let g = goal.at.returns c in
+    let a = c.args in
+    let s = sound g.Else-not-is_readable in
+    let w = sym (told g.After-ascends_within) ∙ c.if-not-ascends_within.false in
     let h = atoms-small a.rules a.table.now (sound-rules _ _ s) in
-    let e : marked m.mark_all.new.marks ≡ listed a.set.now = ap marked m.mark_all.ensures ∙ marks-listed (atoms (rules_at a.rules a.table.now)) entries a.set.now w (omega arith) in
-    tested a.table.now a.rules a.set.now a.marks.now k.mark_least.new.marks s w (sym z.zero_bytes.auto.bytes ∙ m.if-marks-ne-ENTRIES.false) e d.largest_atom-atoms.ensures k.mark_least.ensures c.judge.ensures
+    let e : marked c.mark_all.new.marks ≡ listed a.set.now = ap marked c.mark_all.ensures ∙ marks-listed (atoms (rules_at a.rules a.table.now)) entries a.set.now w (omega arith) in
+    tested a.table.now a.rules a.set.now a.marks.now c.mark_least.new.marks s w (sym c.zero_all.auto.items ∙ c.if-marks-ne-ENTRIES.false) e c.largest_atom-atoms.ensures c.mark_least.ensures c.judge.ensures

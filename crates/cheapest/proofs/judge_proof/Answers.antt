@@ -6,6 +6,7 @@ use lib.ListN.{length, take, length-replicate}
 use lib.Seq.{length-take-le}
 use Rattle.weights.specs.Weights.{paired, most_weighted}
 use Rattle.cheapest.specs.Private.{Restricts}
+use Rattle.cheapest.specs.declared.CheapestFault.TheVariants.{NotCertified}
 use Rattle.cheapest.proofs.Answers.{same-nothing, proof-accepted, proof-refused}
 use Rattle.cheapest.proofs.Words.{sorted-few, restricts-row}
 use borrow.Author.Rules.{rules}
@@ -53,6 +54,6 @@ returns c = λ ws p w.
     let d = (goal.at.returns c).After-write_restriction in
     let a = d.args in
     let s : length c.accepts.new.store ≡ length a.store.now = search rules in
-    c.refuse.ensures ∙ same-nothing 63 (refl {a = length a.table.now}) s
+    c.refuse.ensures ∙ same-nothing NotCertified (refl {a = length a.table.now}) s
     ∙ proof-refused (length a.table.now) (length a.store.now) ws (paired a.pairs.now) a.cost a.proof.now
     (c.accepts.ensures ws p (paired a.pairs.now) a.cost (words d)) c.if-accepts.false

@@ -8,30 +8,30 @@ use Rattle.aspif.specs.Reading.{ProgramRead}
 use Rattle.checker.proofs.Verdicts.{judged-lengths, program-refused, ReadProgram, program-read, check-read, held}
 use borrow.Author.Rules.{rules}
 use Rattle.checker.proofs.check_texts.Goals as goal
-use Rattle.checker.proofs.check_texts.Goals.{In-Read}
+use Rattle.checker.proofs.check_texts.Goals.{In-Ok}
 
 -- what was read, where a program is
-module _ (c : In-Read) where
+module _ (c : In-Ok) where
   abbrev read : ProgramRead c.args.program.now c.args.table.now c.read_program-read.new.table c.read_program-read.result
   read = c.read_program-read.ensures
 
-  found : ReadProgram (length c.args.table.now) (length c.args.store.now) c.args.program.now c.args.proof.now read.answer read.table c.in-Read.atoms c.in-Read.rules
-  found = program-read _ _ _ _ read.answer read.table _ _ c.in-Read.is
+  found : ReadProgram (length c.args.table.now) (length c.args.store.now) c.args.program.now c.args.proof.now read.answer read.table c.in-Ok.field-0.atoms c.in-Ok.field-0.rules
+  found = program-read _ _ _ _ read.answer read.table _ _ c.in-Ok.is
 
 pub check_proof-requires : goal.check_proof-requires
-check_proof-requires c = let d = (goal.at.check_proof-requires c).In-Read in
+check_proof-requires c = let d = (goal.at.check_proof-requires c).In-Ok in
     let h = held _ _ _ _ (read d).answer (read d).table (found d) (search rules) in record { program = (((found d).P, h.0), omega (arith, h.1)); empty = (zeros (pos 0) {n = length d.args.store.now} c.zero_all.ensures).0 }
 
-pub returns-in-Refused : goal.returns-in-Refused
-returns-in-Refused c =
+pub returns-in-Err : goal.returns-in-Err
+returns-in-Err c =
     let r = c.read_program-read.ensures in
-    program-refused _ _ _ _ r.answer r.table longest _ c.in-Refused.is c.zero_all.ensures
+    program-refused _ _ _ _ r.answer r.table longest _ c.in-Err.is c.zero_all.ensures
 
-pub returns-in-Read : goal.returns-in-Read
-returns-in-Read c =
-    let d = (goal.at.returns-in-Read c).In-Read in
+pub returns-in-Ok : goal.returns-in-Ok
+returns-in-Ok c =
+    let d = (goal.at.returns-in-Ok c).In-Ok in
     let a : length d.read_program-read.new.table ≡ length d.args.table.now = search rules in
-    let b : length c.zero_all.new.t ≡ length d.args.store.now = search rules in
+    let b : length c.zero_all.new.items ≡ length d.args.store.now = search rules in
     let p = found d in
     let h = held _ _ _ _ (read d).answer (read d).table p a in
     c.check_proof.ensures p.P h.0 h.2 ∙ judged-lengths longest p.P d.args.proof.now a b ∙ sym (check-read _ _ _ _ (read d).answer (read d).table longest p)

@@ -5,21 +5,11 @@ use borrow.Author.Tests.{lt-ltb, le-ltb}
 use Rattle.drupe.proofs.Lines.{good-parts}
 use Rattle.drupe.proofs.is_good.Goals as goal
 
-pub returns-then-numbers-gt-MOST_NUMBERS : goal.returns-then-numbers-gt-MOST_NUMBERS
-returns-then-numbers-gt-MOST_NUMBERS c = let a = c.args in sym (good-parts a.letter a.numbers.now refl (lt-ltb _ _ c.if-numbers-gt-MOST_NUMBERS.true) refl refl)
-
 pub returns-then-largest_variable-gt-LARGEST : goal.returns-then-largest_variable-gt-LARGEST
 returns-then-largest_variable-gt-LARGEST c =
     let a = c.args in
     let t = lt-ltb _ _ c.if-largest_variable-gt-LARGEST.true in
     sym (good-parts a.letter a.numbers.now (rw c.largest_variable.ensures at t) (le-ltb _ _ c.if-numbers-gt-MOST_NUMBERS.false) refl refl)
-
-pub returns-then-not-is_signed : goal.returns-then-not-is_signed
-returns-then-not-is_signed c =
-    let a = c.args in
-    let t = le-ltb _ _ c.if-largest_variable-gt-LARGEST.false in
-    sym
-    (good-parts a.letter a.numbers.now (rw c.largest_variable.ensures at t) (le-ltb _ _ c.if-numbers-gt-MOST_NUMBERS.false) (sym c.is_signed.ensures ∙ c.if-not-is_signed.true) refl)
 
 pub returns : goal.returns
 returns c =

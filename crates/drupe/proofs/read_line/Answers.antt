@@ -10,7 +10,7 @@ pub step_at-answer-requires-clause-classes_value : goal.step_at-answer-requires-
 unfolding byte_classes
 step_at-answer-requires-clause-classes_value c = search rules
 
-pub returns-in-Line : goal.returns-in-Line
-returns-in-Line c =
+pub returns-in-Ok-Some : goal.returns-in-Ok-Some
+returns-in-Ok-Some c =
     let i = c.step_at-answer.ensures in
-    reads_of c.if-text-gt-LONGEST.false i.answer (numbers-read c.args.text.now c.args.position i c.in-Line.is)
+    reads_of c.if-text-gt-LONGEST.false i.answer (numbers-read c.args.text.now c.args.position c.in-Ok-Some.field-0-0 i (search rules))

@@ -1,6 +1,7 @@
 -- The walk along the chain of the atom: each rule of it that is not ahead has hit its name.
 use mathlib.Core.Path.{◌≡◌, refl, sym, ap, subst, ◌∙◌}
 use mathlib.Core.Logic.{inl, inr}
+use mathlib.Core.Bool.{Bool, true, false, true≢false}
 use mathlib.Core.List.{List, []}
 use Prim.Native.Nat.{ℕ, suc, ◌-◌, ◌<◌}
 use native.Mathlib.Omega.{arith}
@@ -15,31 +16,31 @@ use Rattle.heads.proofs.Starts.{head_of, all_seen}
 use Rattle.heads.proofs.Walks.{walk_from, walk-on, next-less}
 use borrow.Author.Rules.{rules}
 use Rattle.heads.proofs.all_listed.Goals as goal
-use Rattle.heads.proofs.all_listed.Goals.{In-loop-p, After-word_of-k, Else-j-listed}
+use Rattle.heads.proofs.all_listed.Goals.{In-loop-p, After-word_of-k, In-Some}
 use Rattle.heads.proofs.all_listed.Invariants.{Named}
 use Rattle.heads.proofs.all_listed.Lts.View as view
 use Rattle.heads.proofs.all_listed.Reads as reads
 use Rattle.heads.proofs.all_listed.Tie as tie
 
 -- one more hit
-hit-keeps : (names : List ℕ) (ns : List ℤ) (hits : List ℕ) (j : ℕ) → j < length hits → (k : ℕ) → Hit names ns hits k → Hit names ns (set hits j 1) k
+hit-keeps : (names : List ℕ) (ns : List ℤ) (hits : List Bool) (j : ℕ) → j < length hits → (k : ℕ) → Hit names ns hits k → Hit names ns (set hits j true) k
 hit-keeps names ns hits j b k h = (
   h.0,
   h.1,
   (
     h.2.0,
     elim (equal? h.0 j) [
-      | inl e ↦ rw e (get_or-set_same hits j 1 0 b)
-      | inr d ↦ get_or-set_other hits j h.0 1 0 d ∙ h.2.1
+      | inl e ↦ rw e (get_or-set_same hits j true false b)
+      | inr d ↦ get_or-set_other hits j h.0 true false d ∙ h.2.1
     ],
   ),
 )
 
-hit-named : (t : List ℤ) (rules : ℕ) (names : List ℕ) (v : ℕ) (ns : List ℤ) (hits : List ℕ) (j k : ℕ) → HasHead t rules v k
-    → get_or names k 0 ≡ variable (get_or ns j (pos 0)) → Named t rules names v ns hits → Named t rules names v ns (set hits j 1)
+hit-named : (t : List ℤ) (rules : ℕ) (names : List ℕ) (v : ℕ) (ns : List ℤ) (hits : List Bool) (j k : ℕ) → HasHead t rules v k
+    → get_or names k 0 ≡ variable (get_or ns j (pos 0)) → Named t rules names v ns hits → Named t rules names v ns (set hits j true)
 hit-named t rules names v ns hits j k H e N i h = elim (equal? i j) [
   | inl q ↦ rw q (k, H, e)
-  | inr d ↦ N i (sym (get_or-set_other hits j i 1 0 d) ∙ h)
+  | inr d ↦ N i (sym (get_or-set_other hits j i true false d) ∙ h)
 ]
 
 pub loop-p-init : goal.loop-p-init
@@ -48,7 +49,7 @@ loop-p-init c =
     let z = s.requires.line.2 in (
       refl,
       walk_from s.requires.index.0.entered.heads.chains (omega (arith, s.requires.line.0)) c.word_of-p.ensures,
-      λ j e. absurd (omega (arith, e, ap (λ l. get_or l j 0) z, padded {A = ℕ} 0 [] (length s.args.hits.now) j)),
+      λ j e. absurd (true≢false (sym e ∙ ap (λ l. get_or l j false) z ∙ padded false [] (length s.args.hits.now) j)),
     )
 
 -- the place at hand
@@ -82,44 +83,37 @@ module _ (c : After-word_of-k) where
   in-names : c.word_of-k.result < length i.args.names.now
   in-names = omega (arith, headed.0, i.requires.index.2)
 
-pub returns-then-j-listed : goal.returns-then-j-listed
-returns-then-j-listed c =
-    let p = c in
-    let w = (goal.at.returns-then-j-listed c).After-word_of-k in
-    (w.word_of-k.result, headed w, rw p.wide.ensures.same at (p.place_of-j.ensures.none c.if-j-listed.true))
+pub returns-in_default : goal.returns-in_default
+returns-in_default c =
+    let w = (goal.at.returns-in_default c).After-word_of-k in
+    (w.word_of-k.result, headed w, rw c.wide.ensures.same at c.in_default.ensures)
 
 -- the name is listed
-module _ (c : Else-j-listed) where
-  abbrev w : After-word_of-k
-  w = (view.up-After-word_of-k tie.the-claims reads.Pre reads.Post goal.the-invariant-loop-p goal.the-decreases-loop-p tie.handed_clauses c.before.before.before.before.before)
+module _ (c : In-Some) where
+  named : variable (get_or c.args.listed.now c.in-Some.j (pos 0)) ≡ get_or c.args.names.now c.word_of-k.result 0
+  named = c.in-Some.ensures.1 ∙ c.wide.ensures.same
 
-  low : c.place_of-j.result < length (i w).args.listed.now
-  low = omega (arith, c.if-j-listed.false, c.place_of-j.ensures.place)
-
-  named : variable (get_or (i w).args.listed.now c.place_of-j.result (pos 0)) ≡ get_or (i w).args.names.now w.word_of-k.result 0
-  named = c.place_of-j.ensures.here low ∙ c.wide.ensures.same
-
-  inside : c.place_of-j.result < length (i w).loop-p.hits
-  inside = omega (arith, low, (i w).requires.line.1, (i w).loop-p.invariant.0)
+  inside : c.in-Some.j < length c.loop-p.hits
+  inside = omega (arith, c.in-Some.ensures.0, c.requires.line.1, c.loop-p.invariant.0)
 
 pub loop-p-smaller : goal.loop-p-smaller
 loop-p-smaller c =
-    let d = i (w (goal.at.loop-p-smaller c).Else-j-listed) in
+    let d = i (goal.at.loop-p-smaller c).After-word_of-k in
     let e = c.word_of-p-in-loop-p.ensures in
     omega (arith, e, next-less d.requires.index.0.entered.heads.chains d.loop-p.invariant.1 (is d))
 
 pub loop-p-preserved : goal.loop-p-preserved
 loop-p-preserved c =
-    let e = (goal.at.loop-p-preserved c).Else-j-listed in
-    let o = w e in
+    let e = (goal.at.loop-p-preserved c).In-Some in
+    let o = (goal.at.loop-p-preserved c).After-word_of-k in
     let d = i o in
-    let j = e.place_of-j.result in
+    let j = c.in-Some.j in
     let a = d.args in
     let hits = d.loop-p.hits in (
-      length-set hits j 1 ∙ d.loop-p.invariant.0,
+      length-set hits j true ∙ d.loop-p.invariant.0,
       walk-on d.requires.index.0.entered.heads.chains d.loop-p.invariant.1 (is d) c.word_of-p-in-loop-p.ensures
           (λ y h. hit-keeps a.names.now a.listed.now hits j (inside e) _ h)
-          (λ m. (j, low e, (named e ∙ ap (λ k. get_or a.names.now k 0) (owner o), get_or-set_same hits j 1 0 (inside e)))),
+          (λ m. (j, c.in-Some.ensures.0, (named e ∙ ap (λ k. get_or a.names.now k 0) (owner o), get_or-set_same hits j true false (inside e)))),
       hit-named a.table.now a.rules a.names.now a.v a.listed.now hits j o.word_of-k.result (headed o) (sym (named e)) d.loop-p.invariant.2,
     )
 
@@ -131,7 +125,7 @@ returns c =
     (all_seen a.table.now a.rules a.v (Hit a.names.now a.listed.now l.hits) l.p c.loop-p-test.false l.invariant.1, l.invariant.2)
 
 pub bounds-hits-j : goal.bounds-hits-j
-bounds-hits-j c = inside (goal.at.bounds-hits-j c).Else-j-listed
+bounds-hits-j c = inside (goal.at.bounds-hits-j c).In-Some
 
 pub overflow_add-x-in-loop-p : goal.overflow_add-x-in-loop-p
 overflow_add-x-in-loop-p c = let r = room (goal.at.overflow_add-x-in-loop-p c).In-loop-p in search rules

@@ -1,4 +1,5 @@
 use mathlib.Core.Path.{◌≡◌}
+use mathlib.Core.Bool.{Bool, true, false}
 use mathlib.Core.List.{List}
 use Prim.Native.Nat.{ℕ}
 use lib.IntN.{ℤ, pos}
@@ -9,8 +10,8 @@ use Rattle.heads.proofs.Walks.{Walk}
 use Rattle.heads.proofs.all_listed.Given as goal
 
 -- a hit number is the name of such a rule's body
-abbrev pub Named : List ℤ → ℕ → List ℕ → ℕ → List ℤ → List ℕ → Type 0
-Named t rules names v ns hits = (j : ℕ) → get_or hits j 0 ≡ 1 → (k : ℕ) × HasHead t rules v k × (get_or names k 0 ≡ variable (get_or ns j (pos 0)))
+abbrev pub Named : List ℤ → ℕ → List ℕ → ℕ → List ℤ → List Bool → Type 0
+Named t rules names v ns hits = (j : ℕ) → get_or hits j false ≡ true → (k : ℕ) × HasHead t rules v k × (get_or names k 0 ≡ variable (get_or ns j (pos 0)))
 
 abbrev pub invariant-loop-p : goal.invariant-loop-p
 invariant-loop-p l =

@@ -6,6 +6,7 @@ use native.Mathlib.Omega.{arith}
 use lib.IntN.{ℤ, pos}
 use lib.ListN.{length, take, get_or, length-append, length-map}
 use lib.Seq.{take-suc, take_all, length-take-le}
+use Rattle.std.proofs.Common.{rules}
 use Rattle.words.specs.Literals.{variable}
 use Rattle.words.proofs.Places.{in-at}
 use Rattle.words.proofs.Words.{back}
@@ -14,7 +15,7 @@ use Rattle.heads.proofs.enter_heads.Goals as goal
 use Rattle.heads.proofs.enter_heads.Goals.{After-variable_of}
 
 pub loop-j-init : goal.loop-j-init
-loop-j-init c = (omega arith, refl, (λ es H e. rw (append-nil es) H), λ i h. refl)
+loop-j-init c = ((λ es H e. rw (append-nil es) H), λ i h. refl)
 
 -- one more head
 one_more : (hs : List ℤ) (j k : ℕ) → j < length hs → (es : List Headed)
@@ -39,13 +40,12 @@ module _ (c : After-variable_of) where
   j = c.loop-j.j
 
   tells : c.variable_of.result ≡ variable (get_or hs j (pos 0))
-  tells = rw (back (get_or hs j (pos 0)) c.variable_of-arg-1.given) at c.variable_of.ensures
+  tells = rw (back (get_or hs j (pos 0)) (search rules)) at c.variable_of.ensures
 
 pub enter_head-requires : goal.enter_head-requires
 enter_head-requires c =
-    let l = c.loop-j in
     let t = c.loop-j-test.true in (
-      l.invariant.1 ∙ c.requires.index.0,
+      c.loop-j.auto.index ∙ c.requires.index.0,
       rw (tells c) (c.requires.heads _ (in-at (pos 0) (hs c) (j c) t)),
       c.requires.index.1,
       omega (arith, t, c.requires.index.2),
@@ -57,13 +57,11 @@ loop-j-preserved c =
     let l = v.loop-j in
     let t = v.loop-j-test.true in
     let g = c.enter_head in (
-      omega (arith, t),
-      g.auto.index ∙ l.invariant.1,
       (λ es H e. rw (one_more (hs v) (j v) v.args.k t es) (
-          as-head (es ++ map (headed_by v.args.k) (take (j v) (hs v))) v.args.k _ _ (tells v) (g.ensures.chains (es ++ map (headed_by v.args.k) (take (j v) (hs v))) (l.invariant.2 es H e) (size (hs v) (j v) v.args.k (omega (arith, t)) es e)))),
-      λ i h. g.ensures.others i h ∙ l.invariant.3 i h,
+          as-head (es ++ map (headed_by v.args.k) (take (j v) (hs v))) v.args.k _ _ (tells v) (g.ensures.chains (es ++ map (headed_by v.args.k) (take (j v) (hs v))) (l.invariant.0 es H e) (size (hs v) (j v) v.args.k (omega (arith, t)) es e)))),
+      λ i h. g.ensures.others i h ∙ l.invariant.1 i h,
     )
 
 pub returns : goal.returns
 returns c = let l = c.loop-j in
-    let e = take_all l.j c.args.heads.now c.loop-j-test.false in record { chains = (λ es H q. rw (← e) (l.invariant.2 es H q)); others = l.invariant.3 }
+    let e = take_all l.j c.args.heads.now c.loop-j-test.false in record { chains = (λ es H q. rw (← e) (l.invariant.0 es H q)); others = l.invariant.1 }

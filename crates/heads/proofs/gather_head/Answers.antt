@@ -1,24 +1,23 @@
 -- The walk along the chain of the atom: each external rule of it that is not ahead has its name in the row.
-use mathlib.Core.Path.{◌≡◌, refl, sym, ap, subst, ◌∙◌}
+use mathlib.Core.Path.{◌≡◌, refl, sym, subst, ◌∙◌}
 use mathlib.Core.Bool.{true}
 use mathlib.Core.List.{List}
-use Prim.Native.Nat.{ℕ, suc, ◌-◌, ◌≤◌, ◌<◌}
+use Prim.Native.Nat.{ℕ, suc, ◌-◌, ◌<◌}
 use native.Mathlib.Omega.{arith}
 use lib.IntN.{ℤ}
-use lib.ListN.{length, take, drop}
+use lib.ListN.{length}
 use Rattle.words.specs.Limits.{most_held}
 use Rattle.words.specs.Lists.{any}
-use Rattle.words.proofs.Parts.{tail_of}
-use Rattle.aspif.specs.Tables.{heads_at, sound_at, shape_sound}
+use Rattle.aspif.specs.Tables.{heads_at}
 use Rattle.names.specs.Queries.{is_inside}
-use Rattle.heads.specs.Heads.{start_of, words_from, Headed, headed_to, headed_at, Place, HasHead, Gathers}
-use Rattle.heads.proofs.Starts.{rule-here, head_of, all_seen}
+use Rattle.heads.specs.Heads.{words_from, Headed, headed_to, headed_at, Place, HasHead}
+use Rattle.heads.proofs.Starts.{head_of, all_seen}
 use Rattle.heads.proofs.Walks.{walk_from, walk-on, next-less}
 use Rattle.heads.proofs.Bodies.{covers-few}
-use Rattle.heads.proofs.Externals.{Got, collected-few, in-row-keeps, gather-stops, head-inside}
+use Rattle.heads.proofs.Externals.{Got, collected-few, in-row-keeps, head-inside}
 use borrow.Author.Rules.{rules}
 use Rattle.heads.proofs.gather_head.Goals as goal
-use Rattle.heads.proofs.gather_head.Goals.{In-loop-p, After-word_of-k, After-word_of-at, After-gather_rule-count}
+use Rattle.heads.proofs.gather_head.Goals.{In-loop-p, After-word_of-k}
 use Rattle.heads.proofs.gather_head.Lts.View as view
 use Rattle.heads.proofs.gather_head.Reads as reads
 use Rattle.heads.proofs.gather_head.Tie as tie
@@ -68,105 +67,60 @@ module _ (c : After-word_of-k) where
   in-names : k < length i.args.names.now
   in-names = omega (arith, headed.0, i.requires.index.2)
 
-  here : (start_of k (t i) ≤ length (t i)) × (sound_at (words_from k (t i)) ≡ true) × (shape_sound (words_from k (t i)) ≡ true)
-  here = rule-here (t i) i.args.rules i.requires.index.1 k headed.0
-
   inside : any (is_inside i.args.inside.now) (heads_at (words_from k (t i))) ≡ true
   inside = head-inside i.args.inside.now i.args.v (heads_at (words_from k (t i))) i.requires.head.0 i.requires.head.2 headed.1
 
--- and where it starts
-module _ (c : After-word_of-at) where
-  abbrev o : After-word_of-k
-  o = (view.up-After-word_of-k tie.the-claims reads.Pre reads.Post goal.the-invariant-loop-p goal.the-decreases-loop-p tie.handed_clauses c.before.before)
+pub numbered-rule-requires : goal.numbered-rule-requires
+numbered-rule-requires c = (c.requires.index.0, c.requires.index.1, (headed (goal.at.numbered-rule-requires c).After-word_of-k).0)
 
-  starts : c.word_of-at.result ≡ start_of (k o) (t (i o))
-  starts = c.word_of-at.ensures ∙ (i o).requires.index.0.entered.starts (k o) (headed o).0
+pub gather_rule-requires : goal.gather_rule-requires
+gather_rule-requires c = let C = c.loop-p.invariant.0 in (C.is, omega (arith, collected-few c.requires.index.2 C, covers-few c.requires.index.0))
 
-  within : c.word_of-at.result ≤ length (t (i o))
-  within = omega (arith, starts, (here o).0)
-
-  words-at : take (length (t (i o)) - c.word_of-at.result) (drop c.word_of-at.result (t (i o))) ≡ words_from (k o) (t (i o))
-  words-at = tail_of c.word_of-at.result (t (i o)) ∙ ap (λ j. drop j (t (i o))) starts
-
-pub gather_rule-count-requires : goal.gather_rule-count-requires
-gather_rule-count-requires c =
-    let w = (goal.at.gather_rule-count-requires c).After-word_of-at in
-    let d = i (o w) in
-    let C = d.loop-p.invariant.0 in
-    (subst (λ ws. shape_sound ws ≡ true) (sym (words-at w)) (here (o w)).2, C.is, omega (arith, collected-few d.requires.index.2 C, covers-few d.requires.index.0))
-
--- what the call gathers
-module _ (c : After-gather_rule-count) where
-  abbrev w : After-word_of-at
-  w = (view.up-After-word_of-at tie.the-claims reads.Pre reads.Post goal.the-invariant-loop-p goal.the-decreases-loop-p tie.handed_clauses c.before.before.before.before.before)
-
-  abbrev d : In-loop-p
-  d = i (o w)
-
-  gathers : Gathers (t d) d.args.rules d.args.names.now d.args.inside.now (λ j. j ≡ k (o w)) d.loop-p.row d.loop-p.count
-      c.gather_rule-count.new.row c.gather_rule-count.result
-  gathers = c.gather_rule-count.ensures (t d) d.args.rules d.args.names.now (k (o w)) (words-at w) refl (headed (o w)).0 (inside (o w)) d.loop-p.invariant.0
-
-pub returns-then-count-gt-LARGEST : goal.returns-then-count-gt-LARGEST
-returns-then-count-gt-LARGEST c = gather-stops (gathers (goal.at.returns-then-count-gt-LARGEST c).After-gather_rule-count) c.if-count-gt-LARGEST.true
+pub returns-in_err-count : goal.returns-in_err-count
+returns-in_err-count c =
+    let o = (goal.at.returns-in_err-count c).After-word_of-k in
+    let a = c.args in
+    rw c.from_residual.ensures (c.in_err-count.ensures a.table.now a.rules a.names.now (k o) c.numbered-rule.ensures refl (headed o).0 (inside o) c.loop-p.invariant.0)
 
 pub loop-p-smaller : goal.loop-p-smaller
 loop-p-smaller c =
-    let e = d (goal.at.loop-p-smaller c).After-gather_rule-count in
+    let e = (goal.at.loop-p-smaller c).In-loop-p in
     let f = c.word_of-p-in-loop-p.ensures in
     omega (arith, f, next-less e.requires.index.0.entered.heads.chains e.loop-p.invariant.2 (is e))
 
 pub loop-p-preserved : goal.loop-p-preserved
 loop-p-preserved c =
-    let g = (goal.at.loop-p-preserved c).After-gather_rule-count in
-    let h = c.if-count-gt-LARGEST.false in
-    let G = gathers g in
-    let e = d g in
+    let o = (goal.at.loop-p-preserved c).After-word_of-k in
+    let r = c.in_ok-count.count in
+    let row = c.gather_rule.new.row in
+    let e = i o in
     let a = e.args in
-    let row = g.gather_rule-count.new.row in
-    let r = g.gather_rule-count.result in (
-      G.collected h,
-      (λ y m. G.keeps h y (e.loop-p.invariant.1 y m)),
+    let G = c.in_ok-count.ensures (t e) a.rules a.names.now (k o) c.numbered-rule.ensures refl (headed o).0 (inside o) e.loop-p.invariant.0 in (
+      G.collected,
+      (λ y m. G.keeps y (e.loop-p.invariant.1 y m)),
       walk-on e.requires.index.0.entered.heads.chains e.loop-p.invariant.2 (is e) c.word_of-p-in-loop-p.ensures
-          (λ y f X. in-row-keeps e.loop-p.row row e.loop-p.count r (G.keeps h) _ (f X))
-          (λ m. subst (Got (t e) a.rules a.names.now a.inside.now row r) (owner (o (w g))) (λ X. G.all h (k (o (w g))) refl X)),
+          (λ y f X. in-row-keeps e.loop-p.row row e.loop-p.count r G.keeps _ (f X))
+          (λ m. subst (Got (t e) a.rules a.names.now a.inside.now row r) (owner o) (λ X. G.all (k o) refl X)),
     )
 
 pub returns : goal.returns
 returns c =
     let a = c.args in
     let l = c.loop-p in
-    let b = l.invariant.0.is.within in record {
-      most = omega (arith, b);
-      unnamed = λ e. absurd (omega (arith, b));
-      collected = λ h. l.invariant.0;
-      keeps = λ h. l.invariant.1;
-      all = λ h. all_seen a.table.now a.rules a.v (Got a.table.now a.rules a.names.now a.inside.now l.row l.count) l.p c.loop-p-test.false l.invariant.2;
+    record {
+      collected = l.invariant.0;
+      keeps = l.invariant.1;
+      all = all_seen a.table.now a.rules a.v (Got a.table.now a.rules a.names.now a.inside.now l.row l.count) l.p c.loop-p-test.false l.invariant.2;
     }
 
 pub overflow_add-x : goal.overflow_add-x
 overflow_add-x c = let r = room c in search rules
 
-pub overflow_add-k : goal.overflow_add-k
-overflow_add-k c = let r = few c in search rules
-
-pub offset_bounds-table-at : goal.offset_bounds-table-at
-offset_bounds-table-at c = let r = within c in search rules
-
-pub slice_bounds-rest-start : goal.slice_bounds-rest-start
-slice_bounds-rest-start c = let r = within c in search rules
-
-pub slice_bounds-rest-end : goal.slice_bounds-rest-end
-slice_bounds-rest-end c = let r = within c in search rules
-
-pub slice_bounds-rest-count : goal.slice_bounds-rest-count
-slice_bounds-rest-count c = within c
-
 pub offset_bounds-names-k : goal.offset_bounds-names-k
-offset_bounds-names-k c = let r = few (o (goal.at.offset_bounds-names-k c).After-word_of-at) in search rules
+offset_bounds-names-k c = let r = few (goal.at.offset_bounds-names-k c).After-word_of-k in search rules
 
 pub bounds-names-k : goal.bounds-names-k
-bounds-names-k c = in-names (o (goal.at.bounds-names-k c).After-word_of-at)
+bounds-names-k c = in-names (goal.at.bounds-names-k c).After-word_of-k
 
 pub overflow_add-x-in-loop-p : goal.overflow_add-x-in-loop-p
-overflow_add-x-in-loop-p c = let r = room (d (goal.at.overflow_add-x-in-loop-p c).After-gather_rule-count) in search rules
+overflow_add-x-in-loop-p c = let r = room ((goal.at.overflow_add-x-in-loop-p c).In-loop-p) in search rules

@@ -2,13 +2,13 @@ use mathlib.Core.Path.{◌≡◌, sym, ap, ◌∙◌}
 use Rattle.words.specs.Lists.{any}
 use Rattle.aspif.specs.Tables.{body_words_at}
 use Rattle.names.specs.Queries.{is_inside}
-use Rattle.heads.proofs.Externals.{rule-inside, rule-unnamed, rule-noted}
+use Rattle.heads.proofs.Externals.{rule-inside, rule-noted}
 use Rattle.heads.proofs.gather_rule.Goals as goal
 use Rattle.heads.proofs.gather_rule.Goals.{After-any_inside}
 
 tells : (c : After-any_inside)
-    → (let a = c.args in any (is_inside a.inside.now) (body_words_at a.words.now) ≡ c.any_inside.result)
-tells c = sym (c.any_inside.ensures ∙ ap (any (is_inside c.args.inside.now)) c.body_of.ensures)
+    → (let a = c.args in any (is_inside a.inside.now) (body_words_at a.rule.now.words.now) ≡ c.any_inside.result)
+tells c = sym (c.any_inside.ensures ∙ ap (any (is_inside c.args.inside.now)) c.body.ensures)
 
 pub returns-then-any_inside : goal.returns-then-any_inside
 returns-then-any_inside c =
@@ -23,7 +23,7 @@ returns-then-name-eq0 c =
     let b = (goal.at.returns-then-name-eq0 c).After-any_inside in
     let a = b.args in
     λ t rules names k w e h i C.
-    rule-unnamed t rules names a.inside.now a.row.now a.n k (h, i, ap (λ ws. any (is_inside a.inside.now) (body_words_at ws)) (sym w) ∙ tells b ∙ d.if-any_inside.false) (sym e ∙ c.if-name-eq0.true)
+    (k, (h, i, ap (λ ws. any (is_inside a.inside.now) (body_words_at ws)) (sym w) ∙ tells b ∙ d.if-any_inside.false), sym e ∙ c.if-name-eq0.true)
 
 pub returns : goal.returns
 returns c =

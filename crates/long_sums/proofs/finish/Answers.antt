@@ -27,8 +27,8 @@ there : (c : Else-not-is_writable)
     → (let s = c in (s.args.written.place.rules ≤ most_rules) × (s.args.written.place.at ≤ length s.args.output.now))
 there c = let q = c.args.written in numbers-passed q.place.rules q.atom q.place.at _ (passed c)
 
-pub slice_bounds-zero_bytes-count : goal.slice_bounds-zero_bytes-count
-slice_bounds-zero_bytes-count c = (there c).1
+pub slice_bounds-zero_all-count : goal.slice_bounds-zero_all-count
+slice_bounds-zero_all-count c = (there c).1
 
 pub overflow_sub-result : goal.overflow_sub-result
 overflow_sub-result c = let d = (goal.at.overflow_sub-result c).Else-not-is_writable in d.requires (there d).0
@@ -40,4 +40,4 @@ returns c =
     let o = length s.args.output.now in
     let t = length s.args.table.now in
     λ ws rs before w n e a.
-    written-66 w n ws s.args.table.now t (sym (asked w o) ∙ passed d) c.zero_bytes.new.bytes s.args.old c.zero_bytes.ensures e a
+    written-66 w n ws s.args.table.now t (sym (asked w o) ∙ passed d) c.zero_all.new.items s.args.old c.zero_all.ensures e a

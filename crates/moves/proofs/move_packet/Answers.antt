@@ -27,14 +27,14 @@ pub returns-then-not-is_marked : goal.returns-then-not-is_marked
 returns-then-not-is_marked c =
     let a = c.args in
     let m = sym c.is_marked.ensures ∙ c.if-not-is_marked.true in
-    moved-early a.to _ 51 (no-mark a.from a.packet.now m) c.zero_bytes.ensures
+    moved-early a.to _ 51 (no-mark a.from a.packet.now m) c.zero_all.ensures
 
 pub returns-then-not-lengths_fit : goal.returns-then-not-lengths_fit
 returns-then-not-lengths_fit c =
     let a = c.args in
     let m = sym c.is_marked.ensures ∙ c.if-not-is_marked.false in
     let l = sym c.lengths_fit.ensures ∙ c.if-not-lengths_fit.true in
-    moved-early a.to _ 52 (no_lengths a.from a.packet.now m l) c.zero_bytes.ensures
+    moved-early a.to _ 52 (no_lengths a.from a.packet.now m l) c.zero_all.ensures
 
 -- past the lengths
 module _ (c : Else-not-lengths_fit) where
@@ -48,8 +48,8 @@ module _ (c : Else-not-lengths_fit) where
   known = fit_parts packet fit
 
   -- the output holds zeros
-  cleared : Zeros 0 c.zero_bytes.new.bytes × (length c.zero_bytes.new.bytes ≡ length c.args.output.now)
-  cleared = zeros 0 c.zero_bytes.ensures
+  cleared : Zeros 0 c.zero_all.new.items × (length c.zero_all.new.items ≡ length c.args.output.now)
+  cleared = zeros 0 c.zero_all.ensures
 
 pub count_at-count-requires : goal.count_at-count-requires
 count_at-count-requires c = omega (arith, (known c).0)

@@ -7,8 +7,8 @@ use lib.Seq.{length-take-le}
 use Rattle.propagation.proofs.Assignments.{blanked}
 use Rattle.propagation.proofs.release.Goals as goal
 
-pub slice_bounds-zero_bytes-end-2 : goal.slice_bounds-zero_bytes-end-2
-slice_bounds-zero_bytes-end-2 c = let s = c in sym (length-take-le s.args.end s.args.assignment.now s.requires.0)
+pub slice_bounds-zero_all-end-2 : goal.slice_bounds-zero_all-end-2
+slice_bounds-zero_all-end-2 c = let s = c in sym (length-take-le s.args.end s.args.assignment.now s.requires.0)
 
 pub returns : goal.returns
 returns c =
@@ -16,5 +16,5 @@ returns c =
     let s = c in
     let m = s.args.assignment.now in
     let n = s.args.end in
-    ap (λ (l : List ℕ). l ++ drop n m) (k.zero_bytes.ensures ∙ ap (λ (i : ℕ). replicate i 0) (length-take-le n m s.requires.0))
+    ap (λ (l : List ℕ). l ++ drop n m) (k.zero_all.ensures ∙ ap (λ (i : ℕ). replicate i 0) (length-take-le n m s.requires.0))
     ∙ blanked n m s.requires.0 s.requires.1

@@ -1,41 +1,42 @@
 -- The loop: the assignment has grown, by a variable or more with each sweep.
-use mathlib.Core.Path.{◌≡◌, ◌∙◌}
+use mathlib.Core.Path.{◌≡◌, refl, sym, ◌∙◌}
+use mathlib.Core.Bool.{true≢false}
 use native.Mathlib.Omega.{arith}
-use Rattle.propagation.specs.Propagate.{Sweeps}
+use Rattle.propagation.specs.Propagate.{Sweeps, Settles}
 use Rattle.propagation.specs.declared.Swept.{Swept}
+use Rattle.propagation.specs.declared.Swept.TheVariants.{Refuted, Changed, Same}
 use Rattle.propagation.proofs.Closures.{grows-not, grows-on, clashes-before}
 use Rattle.propagation.proofs.settle.Goals as goal
-use Rattle.propagation.proofs.settle.Goals.{After-sweep-swept}
+use Rattle.propagation.proofs.settle.Goals.{Then-ne, Else-ne}
 
-pub loop-left-init : goal.loop-left-init
-loop-left-init c = (omega arith, grows-not, omega arith)
+pub loop-round-init : goal.loop-round-init
+loop-round-init c = (grows-not, omega arith)
 
 pub sweep-swept-requires : goal.sweep-swept-requires
-sweep-swept-requires c = let l = c in record { encoded = l.requires.encoded; size = l.loop-left.invariant.1.size ∙ l.requires.size }
+sweep-swept-requires c = record { encoded = c.requires.encoded; size = c.loop-round.invariant.0.size ∙ c.requires.size }
 
--- what the sweep gave
-module _ (c : After-sweep-swept) where
-  told : (x : Swept) → c.sweep-swept.result ≡ x → Sweeps c.args.nogoods.now c.loop-left.assignment c.sweep-swept.new.assignment x
-  told x e = rw e at c.sweep-swept.ensures
+-- the sweep found a conflict, or nothing that follows
+ended : (c : Then-ne) (x : Swept) → c.sweep-swept.result ≡ x → Sweeps c.args.nogoods.now c.loop-round.assignment c.sweep-swept.new.assignment x
+    → Settles c.args.nogoods.now c.args.rounds c.args.assignment.now c.sweep-swept.new.assignment x
+ended c Refuted e t = clashes-before _ _ _ c.loop-round.invariant.0 t
+ended c Changed e t = absurd (true≢false (sym c.if-ne.true ∙ (rw e at c.ne.ensures)))
+ended c Same e t = rw t.0 (c.loop-round.invariant.0, t.1)
 
-pub returns-in-Refuted : goal.returns-in-Refuted
-returns-in-Refuted c = let o = (goal.at.returns-in-Refuted c).After-sweep-swept in clashes-before _ _ _ o.loop-left.invariant.1 (told o _ c.in-Refuted.is)
+pub returns-then-ne : goal.returns-then-ne
+returns-then-ne c = ended c _ refl c.sweep-swept.ensures
 
-pub returns-in-Same : goal.returns-in-Same
-returns-in-Same c =
-    let o = (goal.at.returns-in-Same c).After-sweep-swept in
-    let t = told o _ c.in-Same.is in
-    rw t.0 (o.loop-left.invariant.1, t.1)
+-- it assigned a variable
+went : (c : Else-ne) (x : Swept) → c.sweep-swept.result ≡ x → Sweeps c.args.nogoods.now c.loop-round.assignment c.sweep-swept.new.assignment x
+    → Sweeps c.args.nogoods.now c.loop-round.assignment c.sweep-swept.new.assignment Changed
+went c Refuted e t = absurd (true≢false (sym (rw e at c.ne.ensures) ∙ c.if-ne.false))
+went c Changed e t = t
+went c Same e t = absurd (true≢false (sym (rw e at c.ne.ensures) ∙ c.if-ne.false))
 
-pub loop-left-smaller : goal.loop-left-smaller
-loop-left-smaller c = omega (arith, c.loop-left-test.true)
-
-pub loop-left-preserved : goal.loop-left-preserved
-loop-left-preserved c =
-    let o = (goal.at.loop-left-preserved c).After-sweep-swept in
-    let v = o.loop-left.invariant in
-    let t = told o _ c.in-Changed.is in
-    (omega (arith, v.0), grows-on v.1 t.0, omega (arith, t.1, v.2, o.loop-left-test.true))
+pub loop-round-preserved : goal.loop-round-preserved
+loop-round-preserved c =
+    let v = c.loop-round.invariant in
+    let t = went c _ refl c.sweep-swept.ensures in
+    (grows-on v.0 t.0, omega (arith, t.1, v.1))
 
 pub returns : goal.returns
-returns c = let v = c.loop-left.invariant in (v.1, omega (arith, v.2, c.loop-left-test.false))
+returns c = let v = c.loop-round.invariant in (v.0, omega (arith, v.1, c.loop-round-test.false))

@@ -11,12 +11,12 @@ use Rattle.words.specs.Lists.{any}
 use Rattle.words.proofs.Parts.{tail_of}
 use Rattle.shapes.specs.Tree.{Parsed, end, tree_of}
 use Rattle.shapes.specs.Walks.{Walks}
-use Rattle.shapes.proofs.Steps.{path-below, no_number, at-end, too-deep, refused-atom, first-none, joins, walks-none, walks-tree}
+use Rattle.shapes.proofs.Steps.{path-below, no_number, at-end, too-deep, refused-atom, first-none, second-none, joins, walks-none, walks-tree}
 use Rattle.shapes.proofs.+shape.Goals as goal
-use Rattle.shapes.proofs.+shape.Goals.{After-shape-first}
+use Rattle.shapes.proofs.+shape.Goals.{After-shape}
 
 -- what the walk of the first side told
-module _ (t : ℕ) (c : After-shape-first t) where
+module _ (t : ℕ) (c : After-shape t) where
   abbrev l : List ℕ
   l = c.args.tree.now
 
@@ -32,8 +32,8 @@ module _ (t : ℕ) (c : After-shape-first t) where
   below : take (6 - (c.args.depth - 1)) (set c.args.path (6 - c.args.depth) (get_or l 0 0)) ≡ path ++ (get_or l 0 0 ∷ [])
   below = path-below c.args.path c.args.depth (get_or l 0 0) c.requires.path (omega (arith, c.if-depth-eq0.false)) c.requires.depth
 
-  first : Walks (Below (drop 1 l)) (drop 1 l) c.shape-first.result
-  first = rw (tail_of 1 l, below) at c.shape-first.ensures
+  told : Walks (Below (drop 1 l)) (drop 1 l) c.shape.result
+  told = rw (tail_of 1 l, below) at c.shape.ensures
 
 pub returns-then-tree-eq0 : goal.returns-then-tree-eq0
 returns-then-tree-eq0 t c = no_number _ _ _ _ c.if-tree-eq0.true
@@ -49,18 +49,30 @@ returns-then-atoms-wide t c =
     refused-atom _ _ _ _ c.if-tree-eq0.false c.if-atom-eq0.false c.if-depth-eq0.false
     (rw (c.wide.ensures.same, c.is_on.ensures) at c.if-atoms-wide.true)
 
-pub returns-in-NoTree : goal.returns-in-NoTree
-returns-in-NoTree t c =
-    let d = (goal.at.returns-in-NoTree t c).After-shape-first in
-    first-none _ _ _ _ c.if-tree-eq0.false c.if-atom-eq0.false c.if-depth-eq0.false (good t d)
-    (walks-none (Below t d (drop 1 (l t d))) (drop 1 (l t d)) c.in-NoTree.is (first t d))
+pub returns-in_err-first : goal.returns-in_err-first
+returns-in_err-first t c =
+    let d = (goal.at.returns-in_err-first t c).After-shape in
+    rw c.from_residual.ensures
+    (first-none _ _ _ _ c.if-tree-eq0.false c.if-atom-eq0.false c.if-depth-eq0.false (good t d)
+    (walks-none (Below t d (drop 1 (l t d))) (drop 1 (l t d)) c.in_err-first.was (told t d)))
 
-pub returns-in-Tree : goal.returns-in-Tree
-returns-in-Tree t c =
-    let d = (goal.at.returns-in-Tree t c).After-shape-first in
-    let n = c.in-Tree.numbers in
-    let second : Walks (Below t d (drop n (drop 1 (l t d)))) (drop n (drop 1 (l t d))) c.shape-second.result =
-    rw (tail_of 1 (l t d), tail_of n (drop 1 (l t d)), below t d) at c.shape-second.ensures in
-    rw c.joined.ensures
-    (joins _ _ _ _ c.if-tree-eq0.false c.if-atom-eq0.false c.if-depth-eq0.false (good t d) n c.in-Tree.ends
-    (walks-tree (Below t d (drop 1 (l t d))) (drop 1 (l t d)) n c.in-Tree.ends c.in-Tree.is (first t d)) c.shape-second.result second)
+pub returns-in_err-second : goal.returns-in_err-second
+returns-in_err-second t c =
+    let d = (goal.at.returns-in_err-second t c).After-shape in
+    let n = c.in_ok-first.first.numbers in
+    let one = walks-tree (Below t d (drop 1 (l t d))) (drop 1 (l t d)) c.in_ok-first.first c.in_ok-first.was (told t d) in
+    let two : Walks (Below t d (drop n (drop 1 (l t d)))) (drop n (drop 1 (l t d))) c.shape-2.result =
+    rw (tail_of 1 (l t d), tail_of n (drop 1 (l t d)), below t d) at c.shape-2.ensures in
+    rw c.from_residual-in_err-second.ensures
+    (second-none _ _ _ _ c.if-tree-eq0.false c.if-atom-eq0.false c.if-depth-eq0.false (good t d) one
+    (walks-none (Below t d (drop n (drop 1 (l t d)))) (drop n (drop 1 (l t d))) c.in_err-second.was two))
+
+pub returns : goal.returns
+returns t c =
+    let d = (goal.at.returns t c).After-shape in
+    let n = c.in_ok-first.first.numbers in
+    let one = walks-tree (Below t d (drop 1 (l t d))) (drop 1 (l t d)) c.in_ok-first.first c.in_ok-first.was (told t d) in
+    let two : Walks (Below t d (drop n (drop 1 (l t d)))) (drop n (drop 1 (l t d))) c.shape-2.result =
+    rw (tail_of 1 (l t d), tail_of n (drop 1 (l t d)), below t d) at c.shape-2.ensures in
+    joins _ _ _ _ c.if-tree-eq0.false c.if-atom-eq0.false c.if-depth-eq0.false (good t d) one
+    (walks-tree (Below t d (drop n (drop 1 (l t d)))) (drop n (drop 1 (l t d))) c.in_ok-second.second c.in_ok-second.was two)

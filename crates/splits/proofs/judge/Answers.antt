@@ -10,6 +10,7 @@ use Rattle.splits.proofs.Answers.{same-nothing, text_in, found-inconsistent, fou
 use borrow.Author.Rules.{rules}
 use Rattle.splits.proofs.judge.Goals as goal
 use Rattle.splits.proofs.judge.Goals.{After-check_proof-verdict}
+use Rattle.splits.specs.declared.MergeFault.TheVariants.{StoreFull}
 
 pub slice_bounds-check_proof-end-2 : goal.slice_bounds-check_proof-end-2
 slice_bounds-check_proof-end-2 c = sym (length-take-le _ _ c.requires.text)
@@ -37,6 +38,6 @@ returns c = λ ws text p w l e.
     let x = d.args in
     let t : length d.check_proof-verdict.new.table ≡ length x.table.now = search rules in
     let s : length d.check_proof-verdict.new.store ≡ length x.store.now = search rules in
-    c.refuse.ensures ∙ same-nothing 59 t s (refl {a = length x.output.now})
+    c.refuse.ensures ∙ same-nothing StoreFull t s (refl {a = length x.output.now})
     ∙ found-otherwise (length x.table.now) (length x.store.now) (length x.output.now) ws text (came d ws text)
     (rw (text_in text (length x.output.now - x.n) l e) at (d.check_proof-verdict.ensures ws p w)) (sym f.is_inconsistent.ensures ∙ f.if-is_inconsistent.false)

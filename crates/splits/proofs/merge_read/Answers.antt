@@ -9,12 +9,13 @@ use Rattle.drupe.specs.Texts.{text_of}
 use Rattle.steps.specs.Held.{Program}
 use Rattle.aspif.specs.Reading.{program}
 use Rattle.splits.specs.Service.{merged_steps, leaves_nothing, merged_reading}
-use Rattle.splits.specs.declared.MergeAnswer.TheVariants.{Refused}
-use Rattle.splits.specs.declared.texts.Written.TheVariants as Written
 use Rattle.splits.proofs.Answers.{same-nothing, judged-same, not_written, Text, is-written}
 use native.Mathlib.Omega.{arith}
 use Rattle.splits.proofs.merge_read.Goals as goal
 use Rattle.splits.proofs.merge_read.Goals.{After-write-written}
+use Rattle.splits.specs.declared.MergeFault.{MergeFault}
+use Rattle.aspif.specs.declared.Refusal.TheVariants.{Service}
+use Rattle.std.specs.Prelude.{Ok, Err}
 
 -- what 57 and 58 left
 module _ (c : After-write-written) where
@@ -45,11 +46,11 @@ module _ (c : After-write-written) where
     abbrev text : List ℕ
     text = text_of (merged_steps ws c.args.v c.args.first.now c.args.second.now)
 
-    refused : (k : ℕ) → c.write-written.result ≡ Written.Refused k
-        → leaves_nothing t s o (Refused k) ≡ merged_reading t s o c.args.v c.args.first.now c.args.second.now (program ws)
+    refused : (k : MergeFault) → c.write-written.result ≡ Err k
+        → leaves_nothing t s o (Err (Service k)) ≡ merged_reading t s o c.args.v c.args.first.now c.args.second.now (program ws)
     refused k e = not_written t s o ws c.args.v c.args.first.now c.args.second.now output' same-output k e (c.write-written.ensures.written ws p)
 
-    written : (n : ℕ) → c.write-written.result ≡ Written.Text n → Text t s o ws c.args.v c.args.first.now c.args.second.now output' same-output n
+    written : (n : ℕ) → c.write-written.result ≡ Ok n → Text t s o ws c.args.v c.args.first.now c.args.second.now output' same-output n
     written n e = is-written t s o ws c.args.v c.args.first.now c.args.second.now output' same-output n e (c.write-written.ensures.written ws p)
 
 -- a program that was read is far below the limits of one with constraints behind it
@@ -58,15 +59,15 @@ write-written-requires c = let p = c.requires in record { program = (p.program.0
 
 pub judge-requires : goal.judge-requires
 judge-requires c = let d = (goal.at.judge-requires c).After-write-written in
-    let q = d.requires.program in record { program = q; empty = (zeros (pos 0) {n = s d} d.write-written.ensures.empty).0; text = (written d q.0.0 q.0.1 _ c.in-Text.is).within }
+    let q = d.requires.program in record { program = q; empty = (zeros (pos 0) {n = s d} d.write-written.ensures.empty).0; text = (written d q.0.0 q.0.1 _ c.in-Ok.is).within }
 
-pub returns-in-Refused : goal.returns-in-Refused
-returns-in-Refused c = λ ws p w.
-    let d = (goal.at.returns-in-Refused c).After-write-written in
-    c.refuse.ensures ∙ same-nothing _ (refl {a = t d}) (same_store d) (same-output d) ∙ refused d ws p _ c.in-Refused.is
+pub returns-in-Err : goal.returns-in-Err
+returns-in-Err c = λ ws p w.
+    let d = (goal.at.returns-in-Err c).After-write-written in
+    c.refuse.ensures ∙ same-nothing _ (refl {a = t d}) (same_store d) (same-output d) ∙ refused d ws p _ c.in-Err.is
 
-pub returns-in-Text : goal.returns-in-Text
-returns-in-Text c = λ ws p w.
-    let d = (goal.at.returns-in-Text c).After-write-written in
-    let T = written d ws p _ c.in-Text.is in
+pub returns-in-Ok : goal.returns-in-Ok
+returns-in-Ok c = λ ws p w.
+    let d = (goal.at.returns-in-Ok c).After-write-written in
+    let T = written d ws p _ c.in-Ok.is in
     c.judge.ensures ws (text d ws p) p w T.is T.holds ∙ judged-same ws (text d ws p) (refl {a = t d}) (same_store d) (same-output d) ∙ T.judged

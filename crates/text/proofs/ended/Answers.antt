@@ -1,52 +1,35 @@
 -- `text::ended` meets its contract: a space, a newline, or no end of a number.
 -- Assumes nothing.
-use mathlib.Core.Path.{refl, ap}
-use native.Mathlib.Omega.{arith}
-use borrow.Author.Tests.{eqb-true}
-use Rattle.text.specs.Classes.{class_at}
+use mathlib.Core.Path.{◌≡◌, refl, sym, ◌∙◌}
+use mathlib.Core.Bool.{Bool}
+use Prim.Native.Nat.{ℕ}
+use Rattle.text.specs.declared.Class.{Class}
+use Rattle.text.specs.declared.Class.TheVariants.{Newline, Space, Minus, Digit, Step, Other}
 use Rattle.text.specs.Scan.{Put, Last, Fail, turn, ending}
-use Rattle.text.proofs.Turns.{each, acts}
-use borrow.Author.Rules.{rules}
+use Rattle.text.proofs.Turns.{acts}
 use Rattle.text.proofs.ended.Goals as goal
+use Rattle.text.proofs.ended.Goals.{in-Space, in-Newline}
 
-pub overflow_add-result : goal.overflow_add-result
-overflow_add-result c =
-    let k = c.class_number-class in
-    let h = k.ensures.within (omega (arith, c.if-class-eq-SPACE.true)) in
-    search rules
+no-end : (neg : Bool) (m : ℕ) (c : Class) → (c ≡ Newline → ⊥) → (c ≡ Space → ⊥) → ending neg m c ≡ Fail
+no-end neg m Newline n s = absurd (n refl)
+no-end neg m Space n s = absurd (s refl)
+no-end neg m Minus n s = refl
+no-end neg m (Digit d) n s = refl
+no-end neg m (Step x) n s = refl
+no-end neg m Other n s = refl
 
-pub returns-then-class-eq-SPACE : goal.returns-then-class-eq-SPACE
+pub returns-in_default : goal.returns-in_default
 unfolding turn
-returns-then-class-eq-SPACE c = let a = c.args in
-    let k = c.class_number-class in
-    let h = k.ensures.within (omega (arith, c.if-class-eq-SPACE.true)) in record {
-      scanned = λ n seen row. acts a.text.now a.at k.result k.ensures.class n seen row (ending a.neg a.m) (λ x. Put a.neg a.m)
-          (ap (λ x. ending a.neg a.m (class_at x)) c.if-class-eq-SPACE.true);
-      within = (omega arith, omega (arith, h));
-    }
+returns-in_default c = let a = c.args in record {
+  scanned = λ n seen row. acts a.text.now a.at n seen row (ending a.negative a.size) (λ x. Fail) (sym c.class_from.ensures)
+      (no-end a.negative a.size c.class_from.result c.in_default.not-Newline c.in_default.not-Space);
+  within = tt;
+}
 
-pub overflow_add-result-then-class-eq-NEWLINE : goal.overflow_add-result-then-class-eq-NEWLINE
-overflow_add-result-then-class-eq-NEWLINE c =
-    let k = c.class_number-class in
-    let h = k.ensures.within (omega (arith, c.if-class-eq-NEWLINE.true)) in
-    search rules
-
-pub returns-then-class-eq-NEWLINE : goal.returns-then-class-eq-NEWLINE
+pub returns-clause-scanned : goal.returns-clause-scanned
 unfolding turn
-returns-then-class-eq-NEWLINE c = let a = c.args in
-    let k = c.class_number-class in
-    let h = k.ensures.within (omega (arith, c.if-class-eq-NEWLINE.true)) in record {
-      scanned = λ n seen row. acts a.text.now a.at k.result k.ensures.class n seen row (ending a.neg a.m) (λ x. Last a.neg a.m)
-          (ap (λ x. ending a.neg a.m (class_at x)) c.if-class-eq-NEWLINE.true);
-      within = (omega arith, omega (arith, h));
-    }
-
-pub returns : goal.returns
-unfolding turn
-returns c = let a = c.args in
-    let k = c.class_number-class in
-    let f = ending a.neg a.m in record {
-      scanned = λ n seen row. acts a.text.now a.at k.result k.ensures.class n seen row f (λ x. Fail)
-          (each f (λ x. Fail) k.result (λ e. refl) (λ e. absurd (c.if-class-eq-NEWLINE.false (eqb-true _ _ e))) (λ e. absurd (c.if-class-eq-SPACE.false (eqb-true _ _ e))) (λ e. refl) (λ y. refl) refl);
-      within = tt;
-    }
+returns-clause-scanned c = let a = c.args in
+    λ n seen row. elim c.match-class_from.branch [
+      | in-Space w ↦ rw w.last-is (acts a.text.now a.at n seen row (ending a.negative a.size) (λ x. Put a.negative a.size) (sym c.class_from.ensures ∙ w.in-Space.is) refl)
+      | in-Newline w ↦ rw w.last-is (acts a.text.now a.at n seen row (ending a.negative a.size) (λ x. Last a.negative a.size) (sym c.class_from.ensures ∙ w.in-Newline.is) refl)
+    ]

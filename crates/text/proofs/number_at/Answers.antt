@@ -1,40 +1,33 @@
 -- `text::number_at` meets its contract: a minus and a number from its first digit on, or such a number alone.
 -- Assumes nothing.
-use mathlib.Core.Path.{refl, ◌∙◌, ap}
+use mathlib.Core.Path.{◌≡◌, refl, sym, ◌∙◌}
 use mathlib.Core.Bool.{false}
-use native.Mathlib.Omega.{arith}
-use lib.ListN.{length}
-use borrow.Author.Tests.{eqb-true}
-use Rattle.text.specs.Classes.{class_at}
+use Rattle.text.specs.declared.Class.{Class}
+use Rattle.text.specs.declared.Class.TheVariants.{Newline, Space, Minus, Digit, Step, Other}
 use Rattle.text.specs.Scan.{Word, Sign, Go, turn, action_of, beginning}
-use Rattle.text.proofs.Turns.{each, acts, one, sign-begins, bounds-from}
-use borrow.Author.Rules.{rules}
+use Rattle.text.proofs.Turns.{acts, one, sign-begins}
 use Rattle.text.proofs.number_at.Goals as goal
 
-pub overflow_add-at : goal.overflow_add-at
-overflow_add-at c =
-    let h = c.class_number.ensures.within (omega (arith, c.if-class_number-eq-MINUS.true)) in
-    search rules
+no-minus : (c : Class) → (c ≡ Minus → ⊥) → action_of Word c ≡ beginning false c
+no-minus Newline f = refl
+no-minus Space f = refl
+no-minus Minus f = absurd (f refl)
+no-minus (Digit d) f = refl
+no-minus (Step x) f = refl
+no-minus Other f = refl
 
-pub returns-then-class_number-eq-MINUS : goal.returns-then-class_number-eq-MINUS
+pub returns-in-Minus-clause-scanned : goal.returns-in-Minus-clause-scanned
 unfolding turn
-returns-then-class_number-eq-MINUS c = let a = c.args in
-    let k = c.class_number in
-    let u = c.unsigned_at in record {
-      scanned = λ n seen row. one a.text.now Word n seen row a.at
-          ∙ acts a.text.now a.at k.result k.ensures.class n seen row (action_of Word) (λ x. Go Sign) (ap (λ x. action_of Word (class_at x)) c.if-class_number-eq-MINUS.true)
-          ∙ sign-begins a.text.now n seen row _ ∙ u.ensures.scanned n seen row;
-      within = bounds-from a.at _ (length a.text.now) u.result (omega arith) u.ensures.within;
-    }
+returns-in-Minus-clause-scanned c = let a = c.args in
+    λ n seen row. one a.text.now Word n seen row a.at
+    ∙ acts a.text.now a.at n seen row (action_of Word) (λ x. Go Sign) (sym c.class_from.ensures ∙ c.in-Minus.is) refl
+    ∙ sign-begins a.text.now n seen row _ ∙ c.unsigned_at.ensures.scanned n seen row
 
-pub returns : goal.returns
-returns c = let a = c.args in
-    let k = c.class_number in
-    let u = c.unsigned_at-2 in
-    let f = action_of Word in record {
+pub returns-in_default : goal.returns-in_default
+returns-in_default c = let a = c.args in
+    let k = c.class_from in
+    let u = c.unsigned_at-in_default.ensures in record {
       scanned = λ n seen row. one a.text.now Word n seen row a.at
-          ∙ acts a.text.now a.at k.result k.ensures.class n seen row f (beginning false)
-          (each f (beginning false) k.result (λ e. refl) (λ e. refl) (λ e. refl) (λ e. absurd (c.if-class_number-eq-MINUS.false (eqb-true _ _ e))) (λ y. refl) refl)
-          ∙ u.ensures.scanned n seen row;
-      within = u.ensures.within;
+          ∙ acts a.text.now a.at n seen row (action_of Word) (beginning false) (sym k.ensures) (no-minus k.result c.in_default.not-Minus) ∙ u.scanned n seen row;
+      within = u.within;
     }

@@ -1,64 +1,49 @@
--- `text::unsigned_at` meets its contract: no digit, a digit that is not 0 with those after it, or 0.
+-- `text::unsigned_at` meets its contract: no digit, 0, or a digit that is not 0 with those after it.
 -- Assumes nothing.
-use mathlib.Core.Path.{refl, sym, ◌∙◌}
-use mathlib.Core.Bool.{and-true}
-use native.Mathlib.Omega.{arith}
+use mathlib.Core.Path.{◌≡◌, refl, sym, ◌∙◌}
+use mathlib.Core.Bool.{Bool, and-true}
 use lib.Dec.{eqb}
-use lib.ListN.{length}
-use borrow.Author.Tests.{leb-true, le-leb, ne_eqb}
 use Rattle.words.proofs.Lists.{and_left, and_right}
+use Prim.Native.Nat.{ℕ}
+use borrow.Author.Tests.{ne_eqb}
+use Rattle.text.specs.declared.Class.{Class}
+use Rattle.text.specs.declared.Class.TheVariants.{Newline, Space, Minus, Digit, Step, Other}
 use Rattle.text.specs.Scan.{Zero, Digits, Go, Fail, more_of, turn, beginning}
-use Rattle.text.proofs.Turns.{each, acts, zero-ends, bounds-from}
-use borrow.Author.Rules.{rules}
+use Rattle.text.proofs.Turns.{acts, zero-ends}
 use Rattle.text.proofs.unsigned_at.Goals as goal
 
-pub returns-then-d-gt9 : goal.returns-then-d-gt9
+no-digit : (neg : Bool) (c : Class) → ((d : ℕ) → c ≡ Digit d → ⊥) → beginning neg c ≡ Fail
+no-digit neg Newline f = refl
+no-digit neg Space f = refl
+no-digit neg Minus f = refl
+no-digit neg (Digit d) f = absurd (f d refl)
+no-digit neg (Step x) f = refl
+no-digit neg Other f = refl
+
+pub returns-in_default : goal.returns-in_default
 unfolding turn
-returns-then-d-gt9 c = let a = c.args in
-    let k = c.class_number-d in
-    let f = beginning a.neg in record {
-      scanned = λ n seen row. acts a.text.now a.at k.result k.ensures.class n seen row f (λ x. Fail)
-          (each f (λ x. Fail) k.result (λ e. absurd (omega (arith, leb-true k.result 9 e, c.if-d-gt9.true))) (λ e. refl) (λ e. refl) (λ e. refl) (λ y. refl) refl);
+returns-in_default c = let a = c.args in
+    let k = c.class_from in record {
+      scanned = λ n seen row. acts a.text.now a.at n seen row (beginning a.negative) (λ x. Fail) (sym k.ensures) (no-digit a.negative k.result c.in_default.not-Digit);
       within = tt;
     }
 
-pub returns-then-neg-d : goal.returns-then-neg-d
+pub returns-then-negative-d-clause-scanned : goal.returns-then-negative-d-clause-scanned
 unfolding turn
-returns-then-neg-d c = let a = c.args in
-    let k = c.class_number-d in
-    let t = c.if-neg-d.true in record {
-      scanned = λ n seen row. acts a.text.now a.at k.result k.ensures.class n seen row (beginning a.neg) (λ x. Fail)
-          (rw (le-leb _ _ c.if-d-gt9.false, and_left a.neg (eqb k.result 0) t, and_right a.neg (eqb k.result 0) t));
-      within = tt;
-    }
+returns-then-negative-d-clause-scanned c = let a = c.args in
+    let d = c.in-Digit.d in
+    let t = c.if-negative-d.true in
+    λ n seen row. acts a.text.now a.at n seen row (beginning a.negative) (λ x. Fail) (sym c.class_from.ensures ∙ c.in-Digit.is) (rw (and_left a.negative (eqb d 0) t, and_right a.negative (eqb d 0) t))
 
-pub overflow_add-at : goal.overflow_add-at
-overflow_add-at c =
-    let h = c.class_number-d.ensures.within (omega (arith, c.if-d-gt9.false)) in
-    search rules
-
-pub returns-then-d-eq0 : goal.returns-then-d-eq0
+pub returns-then-d-eq0-clause-scanned : goal.returns-then-d-eq0-clause-scanned
 unfolding turn
-returns-then-d-eq0 c = let a = c.args in
-    let k = c.class_number-d in record {
-      scanned = λ n seen row. acts a.text.now a.at k.result k.ensures.class n seen row (beginning a.neg) (λ x. Go Zero)
-          (rw (sym (and-true a.neg) ∙ (rw c.if-d-eq0.true at c.if-neg-d.false), c.if-d-eq0.true))
-          ∙ zero-ends a.text.now n seen row _ ∙ c.ended.ensures.scanned n seen row;
-      within = bounds-from a.at _ (length a.text.now) c.ended.result (omega arith) c.ended.ensures.within;
-    }
+returns-then-d-eq0-clause-scanned c = let a = c.args in
+    λ n seen row. acts a.text.now a.at n seen row (beginning a.negative) (λ x. Go Zero) (sym c.class_from.ensures ∙ c.in-Digit.is) (rw (sym (and-true a.negative) ∙ (rw c.if-d-eq0.true at c.if-negative-d.false), c.if-d-eq0.true))
+    ∙ zero-ends a.text.now n seen row _ ∙ c.ended.ensures.scanned n seen row
 
-pub overflow_add-at-2 : goal.overflow_add-at-2
-overflow_add-at-2 c =
-    let h = c.class_number-d.ensures.within (omega (arith, c.if-d-gt9.false)) in
-    search rules
-
-pub returns : goal.returns
+pub returns-clause-scanned : goal.returns-clause-scanned
 unfolding turn
-returns c = let a = c.args in
-    let k = c.class_number-d in
-    let d = c.more_digits-digits in record {
-      scanned = λ n seen row. acts a.text.now a.at k.result k.ensures.class n seen row (beginning a.neg) (λ x. Go (Digits a.neg (more_of 0 k.result)))
-          (rw (le-leb _ _ c.if-d-gt9.false, ne_eqb _ _ c.if-d-eq0.false))
-          ∙ rw (← c.more.ensures) (d.ensures.scanned a.neg n seen row) ∙ c.ended-2.ensures.scanned n seen row;
-      within = bounds-from a.at d.result.next (length a.text.now) c.ended-2.result (omega (arith, d.ensures.after)) c.ended-2.ensures.within;
-    }
+returns-clause-scanned c = let a = c.args in
+    let d = c.more_digits-digits in
+    λ n seen row. acts a.text.now a.at n seen row (beginning a.negative) (λ x. Go (Digits a.negative (more_of 0 c.in-Digit.d))) (sym c.class_from.ensures ∙ c.in-Digit.is) (rw (ne_eqb _ _ c.if-d-eq0.false))
+    ∙ rw (← c.more.ensures) (d.ensures.scanned a.negative n seen row) ∙ c.ended-2.ensures.scanned n seen row

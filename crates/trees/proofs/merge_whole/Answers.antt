@@ -16,7 +16,7 @@ use Rattle.trees.specs.Sides.{Standing, Subtree, pending, Merged}
 use Rattle.trees.specs.declared.sides.Place.{Place}
 use Rattle.trees.proofs.Constraints.{room_for, standing-first}
 use Rattle.trees.proofs.merge_whole.Goals as goal
-use Rattle.trees.proofs.merge_whole.Goals.{After-copy, After-merge_side, In-Text}
+use Rattle.trees.proofs.merge_whole.Goals.{After-copy, After-merge_side, In-Ok}
 use Rattle.trees.proofs.merge_whole.Lts.View as view
 use Rattle.trees.proofs.merge_whole.Reads as reads
 use Rattle.trees.proofs.merge_whole.Tie as tie
@@ -79,17 +79,17 @@ module _ (c : After-merge_side) where
     merged = c.merge_side.ensures.side ws (standing copied P) u [] T
 
 -- it is a text
-module _ (c : In-Text) where
+module _ (c : In-Ok) where
   abbrev side : After-merge_side
   side = (view.up-After-merge_side tie.the-claims reads.Pre reads.Post tie.handed_clauses c.before.before.before.before.before)
 
   abbrev n : ℕ
-  n = c.in-Text.pending.size
+  n = c.in-Ok.pending.size
 
   within : n ≤ longest
   within =
       let q = side.requires in
-      (subst (Merged (s side) (o side) q.program.0.0 q.tree.0 [] side.args.tree.now side.args.texts.now side.args.lengths.now (whole side)) c.in-Text.is (merged side q.program.0.1 q.tree.1)).took.0
+      (subst (Merged (s side) (o side) q.program.0.0 q.tree.0 [] side.args.tree.now side.args.texts.now side.args.lengths.now (whole side)) c.in-Ok.is (merged side q.program.0.1 q.tree.1)).took.0
 
   inside : n ≤ length (whole side)
   inside = omega (arith, within, long side)
@@ -98,27 +98,27 @@ module _ (c : In-Text) where
   size_is = length-take-le n (whole side) inside
 
 pub slice_bounds-whole-end : goal.slice_bounds-whole-end
-slice_bounds-whole-end c = inside (goal.at.slice_bounds-whole-end c).In-Text
+slice_bounds-whole-end c = inside (goal.at.slice_bounds-whole-end c).In-Ok
 
 pub slice_bounds-write_out-end : goal.slice_bounds-write_out-end
-slice_bounds-write_out-end c = sym (size_is (goal.at.slice_bounds-write_out-end c).In-Text)
+slice_bounds-write_out-end c = sym (size_is (goal.at.slice_bounds-write_out-end c).In-Ok)
 
 pub write_out-requires : goal.write_out-requires
-write_out-requires c = let d = (goal.at.write_out-requires c).In-Text in
+write_out-requires c = let d = (goal.at.write_out-requires c).In-Ok in
     let q = d.requires in record { program = q.program; empty = ((zeros (pos 0) {n = s (side d)} (side d).merge_side.ensures.empty).0, q.empty.1); text = omega (arith, size_is d, within d) }
 
-pub returns-in-Refused : goal.returns-in-Refused
-returns-in-Refused c = λ ws p w u T.
-    let d = (goal.at.returns-in-Refused c).After-merge_side in
+pub returns-in-Err : goal.returns-in-Err
+returns-in-Err c = λ ws p w u T.
+    let d = (goal.at.returns-in-Err c).After-merge_side in
     let a = d.args in
     c.refuse.ensures ∙ same-nothing _ (refl {a = t d}) (same_store d) (refl {a = o d})
-    ∙ sym (ap (written_tree (t d) (s d) (o d) ws) (subst (Merged (s d) (o d) ws u [] a.tree.now a.texts.now a.lengths.now (whole d)) c.in-Refused.is (merged d p T)).outcome)
+    ∙ sym (ap (written_tree (t d) (s d) (o d) ws) (subst (Merged (s d) (o d) ws u [] a.tree.now a.texts.now a.lengths.now (whole d)) c.in-Err.is (merged d p T)).outcome)
 
-pub returns-in-Text : goal.returns-in-Text
-returns-in-Text c = λ ws p w u T.
-    let d = (goal.at.returns-in-Text c).After-merge_side in
-    let e = (goal.at.returns-in-Text c).In-Text in
+pub returns-in-Ok : goal.returns-in-Ok
+returns-in-Ok c = λ ws p w u T.
+    let d = (goal.at.returns-in-Ok c).After-merge_side in
+    let e = (goal.at.returns-in-Ok c).In-Ok in
     let a = d.args in
     c.write_out.ensures ws p w
-    ∙ (ap (λ (z : ℕ). written_tree (t d) z (o d) ws (pending z ws (take (n e) (whole d)) e.in-Text.pending.refusal)) (same_store d)
-    ∙ sym (ap (written_tree (t d) (s d) (o d) ws) (subst (Merged (s d) (o d) ws u [] a.tree.now a.texts.now a.lengths.now (whole d)) e.in-Text.is (merged d p T)).outcome))
+    ∙ (ap (λ (z : ℕ). written_tree (t d) z (o d) ws (pending z ws (take (n e) (whole d)) e.in-Ok.pending.refusal)) (same_store d)
+    ∙ sym (ap (written_tree (t d) (s d) (o d) ws) (subst (Merged (s d) (o d) ws u [] a.tree.now a.texts.now a.lengths.now (whole d)) e.in-Ok.is (merged d p T)).outcome))

@@ -3,36 +3,36 @@ use lib.IntN.{pos}
 use lib.ListN.{length}
 use Rattle.words.proofs.Laws.{zeros}
 use Rattle.aspif.specs.Reading.{ProgramRead, program}
-use Rattle.checker.proofs.Verdicts.{ReadProgram, program-read, held}
+use Rattle.checker.proofs.Verdicts.{handed-on, ReadProgram, program-read, held}
 use Rattle.trimming.proofs.Answers.{program-unread, program-trimmed, trimmed-same}
 use borrow.Author.Rules.{rules}
 use Rattle.trimming.proofs.trim_proof.Goals as goal
-use Rattle.trimming.proofs.trim_proof.Goals.{In-Read}
+use Rattle.trimming.proofs.trim_proof.Goals.{In_ok-atoms}
 
 -- what was read, where a program is
-module _ (c : In-Read) where
-  abbrev read : ProgramRead c.args.program.now c.args.table.now c.read_program-read.new.table c.read_program-read.result
-  read = c.read_program-read.ensures
+module _ (c : In_ok-atoms) where
+  abbrev read : ProgramRead c.args.program.now c.args.table.now c.read_program.new.table c.read_program.result
+  read = c.read_program.ensures
 
-  found : ReadProgram (length c.args.table.now) (length c.args.store.now) c.args.program.now c.args.text.now read.answer read.table c.in-Read.atoms c.in-Read.rules
-  found = program-read _ _ _ _ read.answer read.table _ _ c.in-Read.is
+  found : ReadProgram (length c.args.table.now) (length c.args.store.now) c.args.program.now c.args.text.now read.answer read.table c.in_ok-atoms.field-0.atoms c.in_ok-atoms.field-0.rules
+  found = program-read _ _ _ _ read.answer read.table _ _ c.in_ok-atoms.was
 
 pub trim_read-requires : goal.trim_read-requires
-trim_read-requires c = let d = (goal.at.trim_read-requires c).In-Read in
+trim_read-requires c = let d = (goal.at.trim_read-requires c).In_ok-atoms in
     let f = found d in
     let h = held _ _ _ _ (read d).answer (read d).table f (search rules) in record { program = ((f.P, h.0), h.1); empty = (zeros (pos 0) {n = length d.args.store.now} c.zero_all.ensures).0 }
 
-pub returns-in-Refused : goal.returns-in-Refused
-returns-in-Refused c =
-    let r = c.read_program-read.ensures in
-    program-unread _ _ _ _ r.answer r.table _ c.in-Refused.is c.zero_all.ensures
+pub returns-in_err-atoms : goal.returns-in_err-atoms
+returns-in_err-atoms c =
+    let r = c.read_program.ensures in
+    rw (handed-on _ c.from_residual.ensures.1) (program-unread _ _ _ _ r.answer r.table _ c.in_err-atoms.was c.zero_all.ensures)
 
-pub returns-in-Read : goal.returns-in-Read
-returns-in-Read c =
-    let d = (goal.at.returns-in-Read c).In-Read in
+pub returns : goal.returns
+returns c =
+    let d = (goal.at.returns c).In_ok-atoms in
     let f = found d in
-    let t : length d.read_program-read.new.table ≡ length d.args.table.now = search rules in
-    let s : length c.zero_all.new.t ≡ length d.args.store.now = search rules in
+    let t : length d.read_program.new.table ≡ length d.args.table.now = search rules in
+    let s : length c.zero_all.new.items ≡ length d.args.store.now = search rules in
     let h = held _ _ _ _ (read d).answer (read d).table f t in
     let a = d.args in
     c.trim_read.ensures f.P h.0 h.2 ∙ trimmed-same a.text.now (program f.P) t s

@@ -19,10 +19,10 @@ use Rattle.steps.specs.Held.{Program}
 use Rattle.checker.proofs.Whole.{accepted-steps}
 use Rattle.trimming.specs.Service.{trimmed_steps}
 use Rattle.trimming.specs.Passing.{Reads}
-use Rattle.trimming.specs.declared.TrimAnswer.TheVariants.{Trimmed}
+use Rattle.std.specs.Prelude.{Ok}
 use Rattle.trimming.proofs.Answers.{front_kept, not-accepted, written}
 use Rattle.trimming.proofs.trim_read.Goals as goal
-use Rattle.trimming.proofs.trim_read.Goals.{Else-not-is_accepted, After-passes-n, After-zero_bytes}
+use Rattle.trimming.proofs.trim_read.Goals.{Else-not-is_accepted, After-passes-n, After-zero_all-2}
 
 pub returns-then-not-is_accepted : goal.returns-then-not-is_accepted
 returns-then-not-is_accepted c =
@@ -66,13 +66,13 @@ module _ (c : After-passes-n) where
 abbrev behind-zero : (n : ℕ) (text bytes : List ℕ) → List ℕ
 behind-zero n text bytes = put_mid n (length text - n) text bytes
 
-behind : (c : After-zero_bytes) → behind-zero c.passes-n.result c.passes-n.new.text c.zero_bytes.new.bytes
+behind : (c : After-zero_all-2) → behind-zero c.passes-n.result c.passes-n.new.text c.zero_all-2.new.items
     ≡ take c.passes-n.result c.passes-n.new.text ++ replicate (length c.passes-n.new.text - c.passes-n.result) 0
-behind c = tail-filled c.passes-n.result c.passes-n.new.text 0 c.zero_bytes.new.bytes (omega (arith, c.passes-n.ensures.within, c.passes-n.auto.text)) c.zero_bytes.ensures
+behind c = tail-filled c.passes-n.result c.passes-n.new.text 0 c.zero_all-2.new.items (omega (arith, c.passes-n.ensures.within, c.passes-n.auto.text)) c.zero_all-2.ensures
 
 pub slice_bounds-check_proof-end-2 : goal.slice_bounds-check_proof-end-2
 slice_bounds-check_proof-end-2 c =
-    let z = (goal.at.slice_bounds-check_proof-end-2 c).After-zero_bytes in
+    let z = (goal.at.slice_bounds-check_proof-end-2 c).After-zero_all-2 in
     let d = (goal.at.slice_bounds-check_proof-end-2 c).After-passes-n in
     sym (ap length (front_kept (n d) (length (text' d) - n d) (text' d) (within d) (behind z)) ∙ length-take-le (n d) (text' d) (within d))
 
@@ -84,15 +84,15 @@ check_proof-requires c = record {
 
 pub returns : goal.returns
 returns c =
-    let z = (goal.at.returns c).After-zero_bytes in
+    let z = (goal.at.returns c).After-zero_all-2 in
     let d = (goal.at.returns c).After-passes-n in
     let x = c.args in
     let t = length x.table.now in
     let m = length x.store.now in
     λ ws p w.
-    ap (λ (l : List ℕ). record { answer = Trimmed (n d); text = l; table = c.check_proof.new.table; store = c.check_proof.new.store }) (behind z)
+    ap (λ (l : List ℕ). record { answer = Ok (n d); text = l; table = c.check_proof.new.table; store = c.check_proof.new.store }) (behind z)
     ∙ written t m x.text.now ws (is-good (goal.at.returns c).Else-not-is_accepted ws p) (text' d) (n d) (within d) (same_text d)
     (λ ts q. subst (λ (i : ℕ). Reads (text' d) (n d) (trimmed_steps i ws ts)) c.is_accepted.auto.store (c.passes-n.ensures.trimmed ws ts p q))
     (c.check_proof.ensures ws p w
-    ∙ ap (λ (i : ℕ). judged_reading longest t i (take (n d) (behind-zero (n d) (text' d) c.zero_bytes.new.bytes)) (program ws)) (c.passes-n.auto.store ∙ c.is_accepted.auto.store)
+    ∙ ap (λ (i : ℕ). judged_reading longest t i (take (n d) (behind-zero (n d) (text' d) c.zero_all-2.new.items)) (program ws)) (c.passes-n.auto.store ∙ c.is_accepted.auto.store)
     ∙ ap (λ (l : List ℕ). judged_reading longest t m l (program ws)) (front_kept (n d) (length (text' d) - n d) (text' d) (within d) (behind z)))

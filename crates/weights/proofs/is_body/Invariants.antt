@@ -1,10 +1,7 @@
-use Prim.Native.Nat.{◌-◌}
-use lib.ListN.{length}
+use Rattle.std.proofs.Common.{◌≡◌}
+use Rattle.std.specs.Slice.Iter.{chunks_exact_size, chunks_exact_rest}
 use Rattle.weights.proofs.Merging.{Merge}
 use Rattle.weights.proofs.is_body.Given as goal
 
-abbrev pub invariant-loop-i : goal.invariant-loop-i
-invariant-loop-i l = Merge l.pairs l.list l.bound l.total l.least l.i l.j
-
-abbrev pub decreases-loop-i : goal.decreases-loop-i
-decreases-loop-i l = length l.pairs - l.i
+abbrev pub invariant-loop-pair : goal.invariant-loop-pair
+invariant-loop-pair l = (chunks_exact_size l.pair-iterator ≡ 2) × Merge l.pairs l.list (chunks_exact_rest l.pair-iterator) l.bound l.total l.least l.j

@@ -1,68 +1,70 @@
-use mathlib.Core.Path.{◌≡◌, sym, ◌∙◌, ap, refl}
-use mathlib.Core.Bool.{Bool, cond}
-use mathlib.Core.List.{List}
-use Prim.Native.Nat.{ℕ, ◌+◌, ◌-◌}
+use mathlib.Core.Path.{◌≡◌, refl, sym, ◌∙◌, ap}
+use mathlib.Core.Logic.{inl}
+use mathlib.Core.Bool.{Bool, true, false, cond}
+use mathlib.Core.List.{List, [], ◌∷◌, map}
+use Prim.Native.Nat.{ℕ, ◌+◌, ◌≤◌}
 use native.Mathlib.Omega.{arith}
 use lib.IntN.{ℤ}
-use lib.ListN.{drop}
-use Rattle.words.proofs.Parts.{tail_of}
-use Rattle.aspif.specs.Tables.{size_at, rule_at, rules_at}
+use Rattle.std.specs.Prelude.{Option, Some, None}
+use Rattle.std.specs.List.{position_from}
+use Rattle.std.proofs.Common.{rules}
+use Rattle.std.proofs.lemmas.Iterator.Consumers.{YieldsList-from_first}
+use Rattle.std.proofs.lemmas.Iterator.Search.{position_from_yields_List}
+use Rattle.std.proofs.lemmas.Iterator.Adapters.{position_from-zero}
+use Rattle.aspif.specs.Tables.{rule_at, starts_at, rules_at}
+use Rattle.aspif.proofs.Cursors.{few-rules, sound-rules, starts-length, rules_from_starts}
 use Rattle.marks.specs.Marks.{marked}
-use Rattle.answer_set.specs.SetTest.{is_broken, broken_from, breaks}
-use Rattle.aspif.proofs.Cursors.{AtRule, at-rule, no-rules, few-rules, sound-rules}
-use borrow.Author.Rules.{rules}
+use Rattle.answer_set.specs.SetTest.{is_broken, breaks, broken_from, said_of}
+use Rattle.answer_set.specs.declared.SetAnswer.{SetAnswer}
+use Rattle.answer_set.specs.declared.SetAnswer.TheVariants.{Yes, Broken}
 use Rattle.answer_set.proofs.answers.first_broken.Goals as goal
-use Rattle.answer_set.proofs.answers.first_broken.Goals.{In-loop-left, After-is_broken}
-use Rattle.answer_set.proofs.answers.first_broken.Lts.View as view
-use Rattle.answer_set.proofs.answers.first_broken.Reads as reads
-use Rattle.answer_set.proofs.answers.first_broken.Tie as tie
+use Rattle.answer_set.proofs.answers.first_broken.Goals.{After-rules_in, After-position}
 
--- the words from i on, and the rule there
-module _ (c : In-loop-left) where
-  abbrev M : ℕ → Bool
-  M = marked c.args.inside.now
+-- what is said of the place that a search finds
+abbrev said : Option ℕ → SetAnswer
+said None = Yes
+said (Some i) = Broken (i + 1)
 
-  abbrev t : List ℤ
-  t = c.args.table.now
+module _ (M : ℕ → Bool) where
+  abbrev breaks_at : List ℤ → Bool
+  breaks_at ws = is_broken M (rule_at ws)
 
-  abbrev i : ℕ
-  i = c.loop-left.i
+  search-says : (i : ℕ) (starts : List (List ℤ)) → said (position_from breaks_at i starts) ≡ said_of (broken_from M (i + 1) (map rule_at starts))
+  search-says i [] = refl
+  search-says i (ws ∷ starts) = by (breaks_at ws) (search-says (i + 1) starts)
+    where
+      by : (b : Bool) → said (position_from breaks_at (i + 1) starts) ≡ said_of (broken_from M (i + 1 + 1) (map rule_at starts))
+          → said (cond b (Some i) (position_from breaks_at (i + 1) starts)) ≡ said_of (cond b (breaks (i + 1)) (broken_from M (i + 1 + 1) (map rule_at starts)))
+      by true h = refl
+      by false h = h
 
-  at : AtRule t c.loop-left.left i
-  at = at-rule c.loop-left-test.true c.loop-left.invariant.0
+-- the rules are few
+few : (c : After-rules_in) → c.rules_in.result.left ≤ 1024
+few c = omega (arith, few-rules _ _ c.requires, c.rules_in.ensures.start.1)
 
-  whole : broken_from M 1 (rules_at c.args.rules t) ≡ cond (is_broken M (rule_at (drop i t))) (breaks c.loop-left.number) (broken_from M (c.loop-left.number + 1) (rules_at (c.loop-left.left - 1) (drop (i + size_at (drop i t)) t)))
-  whole = c.loop-left.invariant.2 ∙ ap (broken_from M c.loop-left.number) at.rules
+told : (c : After-position) → said c.position.result ≡ said_of (broken_from (marked c.args.inside.now) 1 (rules_at c.args.rules c.args.table.now))
+told c =
+    let M = marked c.args.inside.now in
+    let starts = starts_at c.rules_in.result.left c.rules_in.result.words.now in
+    let found : c.position.result ≡ position_from (breaks_at M) 0 starts =
+    position_from_yields_List (breaks_at M) c.position.new.self _ c.position.result c.position.ensures.ran (YieldsList-from_first _ _ _ refl) (λ x b q k. search rules) ∙ position_from-zero (breaks_at M) starts in
+    ap said found ∙ search-says M 0 starts ∙ rw (c.rules_in.ensures.start.0, c.rules_in.ensures.start.1, rules_from_starts c.args.rules c.args.table.now) refl
 
-tells : (c : After-is_broken) → (let d = (view.up-In-loop-left tie.the-claims reads.Pre reads.Post goal.the-invariant-loop-left goal.the-decreases-loop-left tie.handed_clauses c.before.before.before) in is_broken (M d) (rule_at (drop (i d) (t d))) ≡ c.is_broken.result)
-tells c = let d = (view.up-In-loop-left tie.the-claims reads.Pre reads.Post goal.the-invariant-loop-left goal.the-decreases-loop-left tie.handed_clauses c.before.before.before) in sym (rw (tail_of (i d) (t d)) at c.is_broken.ensures)
+pub rules_in-requires : goal.rules_in-requires
+rules_in-requires c = sound-rules _ _ c.requires
 
-pub loop-left-init : goal.loop-left-init
-loop-left-init c = (record { within = omega arith; sound = sound-rules _ _ c.requires }, omega arith, refl)
+pub position-requires-clause-fits : goal.position-requires-clause-fits
+position-requires-clause-fits c =
+    let r = (goal.at.position-requires-clause-fits c).After-rules_in in
+    inl (omega (arith, few r, starts-length r.rules_in.result.left r.rules_in.result.words.now))
 
-pub offset_bounds-table-i : goal.offset_bounds-table-i
-offset_bounds-table-i c = let w = c.loop-left.invariant.0.within in search rules
+pub overflow_add-result : goal.overflow_add-result
+overflow_add-result c =
+    let r = (goal.at.overflow_add-result c).After-rules_in in
+    record { fits = omega (arith, few r, c.in-Some.ensures.bound, starts-length r.rules_in.result.left r.rules_in.result.words.now) }
 
-pub is_broken-requires : goal.is_broken-requires
-is_broken-requires c = rw (tail_of (i (goal.at.is_broken-requires c).In-loop-left) (t (goal.at.is_broken-requires c).In-loop-left)) (at (goal.at.is_broken-requires c).In-loop-left).sound
+pub returns-in-Some : goal.returns-in-Some
+returns-in-Some c = ap said (sym c.in-Some.is) ∙ told (goal.at.returns-in-Some c).After-position
 
-pub returns-then-is_broken : goal.returns-then-is_broken
-returns-then-is_broken c = let d = (goal.at.returns-then-is_broken c).In-loop-left in rw (whole d, tells (goal.at.returns-then-is_broken c).After-is_broken ∙ c.if-is_broken.true) refl
-
-pub next_rule-i-requires : goal.next_rule-i-requires
-next_rule-i-requires c = record { here = (at (goal.at.next_rule-i-requires c).In-loop-left).here }
-
-pub overflow_add-number : goal.overflow_add-number
-overflow_add-number c = let l = c.loop-left in let f = few-rules _ _ (goal.at.overflow_add-number c).In-loop-left.requires in record { fits = omega (arith, l.invariant.1) }
-
-pub loop-left-smaller : goal.loop-left-smaller
-loop-left-smaller c = omega arith
-
-pub loop-left-preserved : goal.loop-left-preserved
-loop-left-preserved c =
-    let d = (goal.at.loop-left-preserved c).In-loop-left in
-    let l = d.loop-left in
-    rw c.next_rule-i.ensures.next.0 ((at d).next, omega (arith, l.invariant.1, d.loop-left-test.true), whole d ∙ rw (tells (goal.at.loop-left-preserved c).After-is_broken ∙ c.if-is_broken.false))
-
-pub returns : goal.returns
-returns c = let l = c.loop-left in rw (l.invariant.2, no-rules l.left (drop l.i c.args.table.now) c.loop-left-test.false) refl
+pub returns-in-None : goal.returns-in-None
+returns-in-None c = ap said (sym c.in-None.is) ∙ told (goal.at.returns-in-None c).After-position

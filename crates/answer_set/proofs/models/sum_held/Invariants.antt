@@ -1,15 +1,11 @@
-use mathlib.Core.Path.{◌≡◌}
-use Prim.Native.Nat.{◌≤◌, ◌-◌, ◌+◌}
-use lib.ListN.{length, drop}
+use Rattle.std.proofs.Common.{◌≡◌, ◌+◌}
+use Rattle.std.specs.Slice.Iter.{chunks_exact_size, chunks_exact_rest}
 use Rattle.weights.specs.Weights.{paired}
 use Rattle.marks.specs.Marks.{marked}
 use Rattle.answer_set.specs.SetTest.{held_sum}
 use Rattle.answer_set.proofs.models.sum_held.Given as goal
 
-abbrev pub invariant-loop-i : goal.invariant-loop-i
-invariant-loop-i l =
-    (l.i ≤ length l.pairs)
-    × (held_sum (marked l.inside) (marked l.marks) (paired l.pairs) ≡ l.total + held_sum (marked l.inside) (marked l.marks) (paired (drop l.i l.pairs)))
-
-abbrev pub decreases-loop-i : goal.decreases-loop-i
-decreases-loop-i l = length l.pairs - l.i
+abbrev pub invariant-loop-pair : goal.invariant-loop-pair
+invariant-loop-pair l =
+    (chunks_exact_size l.pair-iterator ≡ 2)
+    × (held_sum (marked l.inside) (marked l.marks) (paired l.pairs) ≡ l.total + held_sum (marked l.inside) (marked l.marks) (paired (chunks_exact_rest l.pair-iterator)))

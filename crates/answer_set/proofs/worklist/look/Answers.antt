@@ -1,14 +1,11 @@
 use Prim.Native.Nat.{◌%◌}
-use native.Mathlib.Omega.{arith}
 use lib.ListN.{drop, get_or}
 use Rattle.words.proofs.Parts.{tail_of}
 use Rattle.aspif.specs.Tables.{rule_at}
-use Rattle.aspif.proofs.Cursors.{shape_of}
 use Rattle.marks.specs.Marks.{marked, Marking}
 use Rattle.answer_set.specs.SetTest.{give_rule}
 use Rattle.answer_set.specs.Private.{RuleStart, nothing}
 use Rattle.answer_set.proofs.Giving.{given-one}
-use borrow.Author.Rules.{rules}
 use Rattle.answer_set.proofs.worklist.look.Goals as goal
 use Rattle.answer_set.proofs.worklist.look.Goals.{After-get-work, After-give_rule}
 
@@ -24,21 +21,10 @@ told c =
     let a = c.args in
     rw (tail_of (get_or a.starts.now (a.entry % 1025) 0) a.table.now) at c.give_rule.ensures
 
-pub offset_bounds-table-start : goal.offset_bounds-table-start
-offset_bounds-table-start c = let w = (start (goal.at.offset_bounds-table-start c).After-get-work).within in search rules
+pub returns-then-is_ready-clause-given : goal.returns-then-is_ready-clause-given
+returns-then-is_ready-clause-given c =
+    let g = goal.at.returns-then-is_ready-clause-given c in
+    given-one (start g.After-get-work).among (told g.After-give_rule).marks
 
-pub is_ready-requires : goal.is_ready-requires
-is_ready-requires c = record { words_value = rw (tail_of _ _) (start (goal.at.is_ready-requires c).After-get-work).sound; rule_le_most_rules = omega arith }
-
-pub give_rule-requires : goal.give_rule-requires
-give_rule-requires c = rw (tail_of _ _) (start (goal.at.give_rule-requires c).After-get-work).sound
-
-pub heads_of-requires : goal.heads_of-requires
-heads_of-requires c = rw (tail_of _ _) (shape_of _ (start (goal.at.heads_of-requires c).After-get-work).sound)
-
-pub returns-then-is_ready : goal.returns-then-is_ready
-returns-then-is_ready c = let g = (goal.at.returns-then-is_ready c).After-give_rule in
-    let d = (goal.at.returns-then-is_ready c).After-get-work in record { upper_bound = c.wake_all.ensures; given = given-one (start d).among (told g).marks }
-
-pub returns : goal.returns
-returns c = record { upper_bound = c.get-work.ensures; given = nothing }
+pub returns-clause-given : goal.returns-clause-given
+returns-clause-given c = nothing

@@ -1,9 +1,12 @@
-use Prim.Native.Nat.{◌≤◌}
+use Prim.Native.Nat.{◌-◌}
+use Rattle.std.specs.Iterator.Adapters.{enumerate_source, enumerate_count}
+use Rattle.aspif.specs.Tables.{starts_at}
 use Rattle.answer_set.proofs.Giving.{StartsSoFar}
 use Rattle.answer_set.proofs.worklist.starts_of.Given as goal
 
-abbrev pub invariant-loop-left : goal.invariant-loop-left
-invariant-loop-left l = (l.left ≤ l.rules) × StartsSoFar l.table l.rules l.left l.i l.starts
-
-abbrev pub decreases-loop-left : goal.decreases-loop-left
-decreases-loop-left l = l.left
+abbrev pub invariant-loop-before : goal.invariant-loop-before
+invariant-loop-before l =
+    (goal.iterator-loop-before).can_next l.before-iterator
+    × (goal.iterator-loop-before).is_finite l.before-iterator
+    × StartsSoFar l.table l.rules (l.rules - enumerate_count l.before-iterator) l.start l.starts
+    (starts_at (enumerate_source l.before-iterator).left (enumerate_source l.before-iterator).words.now)

@@ -50,4 +50,4 @@ returns c =
     let s = (goal.at.returns c).Start in
     let a = s.args in
     turn-adds (rule s) _ (size s) a.free.now a.rules a.next (leb-false _ _ (sym f.is_full.ensures ∙ f.if-is_full.false)) g.if-free-size.false _ _
-    w.write_rule.ensures (c.larger.ensures ∙ ap₂ (λ x y. max x y) (in-heads (goal.at.returns c).After-largest_variable-b) (in_body (goal.at.returns c).After-largest_variable-b))
+    w.write_rule.ensures (c.max.ensures ∙ ap₂ (λ x y. max x y) (in-heads (goal.at.returns c).After-largest_variable-b) (in_body (goal.at.returns c).After-largest_variable-b))

@@ -10,6 +10,7 @@ use Rattle.aspif.specs.Turns.{TurnTaken}
 use Rattle.aspif.specs.declared.rules.Shape.TheVariants.{Weighed}
 use Rattle.aspif.proofs.rules.take_weighed.Goals as goal
 use Rattle.aspif.proofs.rules.take_weighed.Goals.{Start}
+use Rattle.std.specs.Prelude.{Ok}
 
 -- the row lent for the literals has as many places
 many : (c : Start) → length (take c.args.body (replicate most_literals (pos 0))) ≡ c.args.body
@@ -30,5 +31,5 @@ returns c =
     let t = c.take_pairs in
     subst
     (λ n.
-    TurnTaken (room a.rules (length a.free.now) (rule_of a.row.now (Weighed a.kind a.heads n)) a.next) a.free.now t.new.free t.result)
+    TurnTaken (room a.rules (length a.free.now) (rule_of a.row.now (Ok (Weighed a.kind a.heads n))) a.next) a.free.now t.new.free t.result)
     (many s) t.ensures

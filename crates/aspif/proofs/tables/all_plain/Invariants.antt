@@ -1,12 +1,8 @@
 use mathlib.Core.Path.{◌≡◌}
-use lib.ListN.{drop}
-use Rattle.aspif.specs.Tables.{rules_at}
-use Rattle.aspif.proofs.Cursors.{Cursor}
+use mathlib.Core.List.{map}
 use Rattle.aspif.specs.Rules.{all_plain}
+use Rattle.aspif.specs.Tables.{rule_at, rules_at, starts_at}
 use Rattle.aspif.proofs.tables.all_plain.Given as goal
 
-abbrev pub invariant-loop-left : goal.invariant-loop-left
-invariant-loop-left l = Cursor l.table l.left l.i × (all_plain (rules_at l.rules l.table) ≡ all_plain (rules_at l.left (drop l.i l.table)))
-
-abbrev pub decreases-loop-left : goal.decreases-loop-left
-decreases-loop-left l = l.left
+abbrev pub invariant-loop-rule : goal.invariant-loop-rule
+invariant-loop-rule l = all_plain (rules_at l.rules l.table) ≡ all_plain (map rule_at (starts_at l.rule-iterator.left l.rule-iterator.words.now))

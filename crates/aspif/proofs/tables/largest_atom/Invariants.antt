@@ -1,13 +1,9 @@
 use mathlib.Core.Path.{◌≡◌}
+use mathlib.Core.List.{map}
 use Prim.Native.Nat.{max}
-use lib.ListN.{drop}
 use Rattle.aspif.specs.Rules.{atoms}
-use Rattle.aspif.specs.Tables.{rules_at}
-use Rattle.aspif.proofs.Cursors.{Cursor}
+use Rattle.aspif.specs.Tables.{rule_at, rules_at, starts_at}
 use Rattle.aspif.proofs.tables.largest_atom.Given as goal
 
-abbrev pub invariant-loop-left : goal.invariant-loop-left
-invariant-loop-left l = Cursor l.table l.left l.i × (atoms (rules_at l.rules l.table) ≡ max l.most (atoms (rules_at l.left (drop l.i l.table))))
-
-abbrev pub decreases-loop-left : goal.decreases-loop-left
-decreases-loop-left l = l.left
+abbrev pub invariant-loop-rule : goal.invariant-loop-rule
+invariant-loop-rule l = atoms (rules_at l.rules l.table) ≡ max l.most (atoms (map rule_at (starts_at l.rule-iterator.left l.rule-iterator.words.now)))

@@ -1,21 +1,19 @@
+use mathlib.Core.List.{[]}
 use native.Mathlib.Omega.{arith}
-use Rattle.aspif.proofs.Cursors.{at-rule}
-use Rattle.aspif.proofs.Used.{passed_on, passed-all}
+use Rattle.aspif.proofs.Used.{Passed, passed_on, used-within}
 use Rattle.aspif.proofs.tables.words_used.Goals as goal
 
-pub loop-left-init : goal.loop-left-init
-loop-left-init c = (record { within = omega arith; sound = c.requires }, omega arith)
+pub overflow_add-used : goal.overflow_add-used
+overflow_add-used c =
+    let p = passed_on c.args.table.now c.args.rules c.loop-rule.used c.in-Some.rule.words.now c.in-Some.ensures.steps c.in-Some.rule.sound c.loop-rule.invariant in
+    let w = used-within c.args.table.now c.args.rules c.requires in
+    record { fits = omega (arith, p, w, c.size-used.ensures.size.0) }
 
-pub next_rule-i-requires : goal.next_rule-i-requires
-next_rule-i-requires c = record { here = (at-rule c.loop-left-test.true c.loop-left.invariant.0).here }
-
-pub loop-left-smaller : goal.loop-left-smaller
-loop-left-smaller c = omega (arith, c.loop-left-test.true)
-
-pub loop-left-preserved : goal.loop-left-preserved
-loop-left-preserved c =
-    let t = c in
-    rw c.next_rule-i.ensures.next.0 (passed_on t.args.rules t.loop-left-test.true t.loop-left.invariant)
+pub loop-rule-preserved : goal.loop-rule-preserved
+loop-rule-preserved c = rw c.size-used.ensures.size.0 (passed_on c.args.table.now c.args.rules c.loop-rule.used c.in-Some.rule.words.now c.in-Some.ensures.steps c.in-Some.rule.sound c.loop-rule.invariant)
 
 pub returns : goal.returns
-returns c = let p = c.loop-left.invariant in record { used = (passed-all c.args.rules c.loop-left-test.false p, p.0.within) }
+returns c =
+    let e : Passed c.args.table.now c.args.rules c.loop-rule.used [] = rw c.in-None.ensures.steps.0 at c.loop-rule.invariant in
+    let w = used-within c.args.table.now c.args.rules c.requires in
+    record { used = (omega (arith, e), omega (arith, e, w)) }

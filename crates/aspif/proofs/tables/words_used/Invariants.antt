@@ -1,8 +1,6 @@
+use Rattle.aspif.specs.Tables.{starts_at}
 use Rattle.aspif.proofs.Used.{Passed}
 use Rattle.aspif.proofs.tables.words_used.Given as goal
 
-abbrev pub invariant-loop-left : goal.invariant-loop-left
-invariant-loop-left l = Passed l.table l.rules l.left l.i
-
-abbrev pub decreases-loop-left : goal.decreases-loop-left
-decreases-loop-left l = l.left
+abbrev pub invariant-loop-rule : goal.invariant-loop-rule
+invariant-loop-rule l = Passed l.table l.rules l.used (starts_at l.rule-iterator.left l.rule-iterator.words.now)

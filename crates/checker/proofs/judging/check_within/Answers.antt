@@ -40,22 +40,22 @@ pub conclude-requires : goal.conclude-requires
 conclude-requires c =
     let q = (goal.at.conclude-requires c).After-run_long-run in
     let p = q.requires.program.0 in
-    let r = ran-through (store' q) (came q p.0) _ _ (ran q p.0 p.1) c.in-Through.is in
+    let r = ran-through (store' q) (came q p.0) _ (ran q p.0 p.1) c.in-Ok.is in
     (r.1, r.3)
 
-pub returns-in-Stopped : goal.returns-in-Stopped
-returns-in-Stopped c = λ ws p w.
-    let q = (goal.at.returns-in-Stopped c).After-run_long-run in
-    let r = c.refuse-in-Stopped.ensures in
+pub returns-in-Err : goal.returns-in-Err
+returns-in-Err c = λ ws p w.
+    let q = (goal.at.returns-in-Err c).After-run_long-run in
+    let r = c.refuse-in-Err.ensures in
     let same : length (store' q) ≡ length q.args.store.now = search rules in
-    let o = ran-stopped (store' q) (came q ws) _ (ran q ws p) c.in-Stopped.is in
+    let o = ran-stopped (store' q) (came q ws) _ (ran q ws p) c.in-Err.is in
     judged-stopped _ _ ws _ _ o r.verdict r.table (r.store ∙ ap (λ (k : ℕ). replicate k (pos 0)) same)
 
-pub returns-in-Through : goal.returns-in-Through
-returns-in-Through c = λ ws p w.
-    let q = (goal.at.returns-in-Through c).After-run_long-run in
+pub returns-in-Ok : goal.returns-in-Ok
+returns-in-Ok c = λ ws p w.
+    let q = (goal.at.returns-in-Ok c).After-run_long-run in
     let same : length (store' q) ≡ length q.args.store.now = search rules in
-    let t = ran-through (store' q) (came q ws) _ _ (ran q ws p) c.in-Through.is in
+    let t = ran-through (store' q) (came q ws) _ (ran q ws p) c.in-Ok.is in
     judged-through _ _ ws _ _ _ _ _ t.0 t.1 t.2 (course-live _ _ _ _ _ t.2) (c.conclude.ensures t.1 t.3) p.top (sym (rules-held p.holds)) w t.3 same
 
 pub run_long-run-requires : goal.run_long-run-requires

@@ -1,4 +1,4 @@
-use mathlib.Core.Path.{◌≡◌, refl, sym, ap, ◌∙◌}
+use mathlib.Core.Path.{◌≡◌, sym, ap, ◌∙◌}
 use mathlib.Core.List.{List, [], ◌∷◌}
 use Prim.Native.Nat.{ℕ, suc, ◌+◌, ◌-◌, ◌<◌}
 use native.Mathlib.Omega.{arith}
@@ -6,23 +6,20 @@ use lib.IntN.{ℤ, pos}
 use lib.ListN.{length, take, drop, get_or}
 use Rattle.words.specs.Lists.{◌∈◌}
 use Rattle.words.specs.Literals.{variable}
-use Rattle.words.proofs.Laws.{any_none}
 use Rattle.words.proofs.Lists.{passed}
 use Rattle.words.proofs.Places.{in-at}
 use Rattle.words.proofs.Words.{back}
 use Rattle.derivation.proofs.Questions.{positive-is}
-use Rattle.loops.specs.Edges.{place_by, is_at}
-use Rattle.loops.proofs.Placing.{placed-low, place-there, place-part}
-use Rattle.loops.proofs.EdgeMarks.{filling-on, filled}
+use Rattle.loops.specs.Edges.{place_by}
+use Rattle.loops.proofs.Placing.{placed-low, place-part}
+use Rattle.loops.proofs.EdgeMarks.{filling-on}
 use Rattle.loops.proofs.Chained.{numbers-left, number-split}
-use borrow.Author.Rules.{rules}
+use Rattle.std.proofs.Common.{rules}
 use Rattle.loops.proofs.edges.look_up.Goals as goal
 use Rattle.loops.proofs.edges.look_up.Goals.{After-variable_of-v}
 
-pub loop-j-init : goal.loop-j-init
-loop-j-init c =
-    let s = c in
-    (omega arith, numbers-left s.args.table.now s.args.rules s.args.places.now s.requires.places.1)
+pub loop-x-init : goal.loop-x-init
+loop-x-init c = numbers-left c.args.table.now c.args.rules c.args.places.now c.requires.places.1
 
 -- the number at hand
 module _ (c : After-variable_of-v) where
@@ -30,19 +27,19 @@ module _ (c : After-variable_of-v) where
   U = c.args.numbers.now
 
   abbrev j : ℕ
-  j = c.loop-j.j
+  j = c.loop-x.x-index
 
   abbrev x : ℤ
   x = get_or U j (pos 0)
 
   taken : j < length U
-  taken = c.loop-j-test.true
+  taken = c.loop-x-test.true
 
   among : x ∈ U
   among = in-at (pos 0) U j taken
 
   tells : c.variable_of-v.result ≡ variable x
-  tells = rw (back x c.variable_of-arg-1.given) at c.variable_of-v.ensures
+  tells = c.variable_of-v.ensures ∙ ap variable (back x (search rules))
 
   atom : x ≡ pos c.variable_of-v.result
   atom = positive-is x ((passed _).from (c.requires.places.0.positive x among)) ∙ ap pos (sym tells)
@@ -53,43 +50,23 @@ module _ (c : After-variable_of-v) where
   placed : place_by m (pos c.variable_of-v.result) ≡ suc j
   placed = sym (ap (place_by m) atom) ∙ c.requires.places.1.from j taken
 
-  there : c.variable_of-v.result < length m
-  there = place-there m c.variable_of-v.result placed
-
   part : (n : ℕ) → n ≡ 1 → take n (drop c.variable_of-v.result m) ≡ place_by m (pos c.variable_of-v.result) ∷ []
   part n e = place-part m c.variable_of-v.result placed n e
 
-pub mark_chain-requires : goal.mark_chain-requires
-mark_chain-requires c = let v = (goal.at.mark_chain-requires c).After-variable_of-v in
-    let p = v.requires in
-    let a = v.variable_of-v.result in record { index = p.index; head = (part v (a + 1 - a) (omega arith), omega (arith, tells v, p.places.0.high (x v) (among v))); sizes = (v.loop-j.invariant.1.long, placed-low p.places.0.few p.places.1, (U v, p.places.1)) }
+pub mark_chain-requires-clause-head : goal.mark_chain-requires-clause-head
+mark_chain-requires-clause-head c =
+    let v = (goal.at.mark_chain-requires-clause-head c).After-variable_of-v in
+    let a = v.variable_of-v.result in
+    (part v (a + 1 - a) (omega arith), omega (arith, tells v, v.requires.places.0.high (x v) (among v)))
 
-pub loop-j-preserved : goal.loop-j-preserved
-loop-j-preserved c =
-    let v = (goal.at.loop-j-preserved c).After-variable_of-v in
-    let a = v.args in (
-      omega (arith, taken v),
-      filling-on v.loop-j.invariant.1 c.mark_chain.ensures
-          (number-split a.table.now a.rules a.places.now (U v) _ (j v) (taken v) (ap (λ y. y ∷ []) (sym (atom v)))),
-    )
+pub mark_chain-requires-clause-sizes : goal.mark_chain-requires-clause-sizes
+mark_chain-requires-clause-sizes c =
+    let p = c.requires.places in
+    (c.loop-x.invariant.long, placed-low p.0.few p.1, (c.args.numbers.now, p.1))
 
-pub returns : goal.returns
-returns c =
-    let l = c.loop-j in
-    let a = c.args in
-    filled l.invariant.1 (λ i b. rw (any_none (is_at a.places.now b) a.numbers.now c.loop-j-test.false) refl)
-
-pub overflow_add-v : goal.overflow_add-v
-overflow_add-v c = let r = there (goal.at.overflow_add-v c).After-variable_of-v in search rules
-
-pub slice_bounds-mark_chain-start : goal.slice_bounds-mark_chain-start
-slice_bounds-mark_chain-start c = let r = there (goal.at.slice_bounds-mark_chain-start c).After-variable_of-v in search rules
-
-pub slice_bounds-mark_chain-end : goal.slice_bounds-mark_chain-end
-slice_bounds-mark_chain-end c = let r = there (goal.at.slice_bounds-mark_chain-end c).After-variable_of-v in search rules
-
-pub slice_bounds-mark_chain-end-in-loop-j : goal.slice_bounds-mark_chain-end-in-loop-j
-slice_bounds-mark_chain-end-in-loop-j c = sym c.loop-j.invariant.1.long
-
-pub loop-j-smaller : goal.loop-j-smaller
-loop-j-smaller c = omega arith
+pub loop-x-preserved : goal.loop-x-preserved
+loop-x-preserved c =
+    let v = (goal.at.loop-x-preserved c).After-variable_of-v in
+    let a = v.args in
+    filling-on v.loop-x.invariant c.mark_chain.ensures
+    (number-split a.table.now a.rules a.places.now (U v) _ (j v) (taken v) (ap (λ y. y ∷ []) (sym (atom v))))

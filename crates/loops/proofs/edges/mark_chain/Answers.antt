@@ -1,15 +1,14 @@
 -- The walk along the chain of the atom: the edges of each rule of it that is not ahead are marked.
-use mathlib.Core.Path.{◌≡◌, refl, sym, ap, subst, ◌∙◌}
-use mathlib.Core.Bool.{true}
+use mathlib.Core.Path.{◌≡◌, refl, ap, subst, ◌∙◌}
 use mathlib.Core.List.Memᴰ
 use mathlib.Core.List.{List, [], ◌∷◌}
 use Prim.Native.Nat.{ℕ, suc, ◌-◌, ◌<◌}
 use native.Mathlib.Omega.{arith}
 use lib.IntN.{ℤ, pos}
 use Rattle.words.specs.Lists.{◌∈◌}
-use Rattle.aspif.specs.Tables.{body_words_at, shape_sound}
+use Rattle.aspif.specs.Tables.{body_words_at}
 use Rattle.heads.specs.Heads.{words_from, Headed, headed_to, headed_at, Place, HasHead}
-use Rattle.heads.proofs.Starts.{rule-here, head_of, all_seen}
+use Rattle.heads.proofs.Starts.{head_of, all_seen}
 use Rattle.heads.proofs.Walks.{walk_from, walk-on, next-less}
 use Rattle.loops.specs.Edges.{LowPlaces}
 use Rattle.loops.proofs.Chained.{Drawn, drawing-start, drawing-on, drawn-keeps, drawn-here, drawing-end}
@@ -50,14 +49,8 @@ module _ (c : In-loop-p) where
   headed : HasHead t c.args.rules c.args.v k
   headed = head_of t c.args.rules c.args.v x c.requires.index.1 place
 
-  shape : shape_sound (words_from k t) ≡ true
-  shape = (rule-here t c.args.rules c.requires.index.1 k headed.0).2
-
-pub words_of-words-requires : goal.words_of-words-requires
-words_of-words-requires c = record { index = c.requires.index; place = (place (goal.at.words_of-words-requires c).In-loop-p).0 }
-
-pub body_of-requires : goal.body_of-requires
-body_of-requires c = subst (λ ws. shape_sound ws ≡ true) (sym c.words_of-words.ensures) (shape (goal.at.body_of-requires c).In-loop-p)
+pub rule_of-rule-requires : goal.rule_of-rule-requires
+rule_of-rule-requires c = record { index = c.requires.index; place = (place (goal.at.rule_of-rule-requires c).In-loop-p).0 }
 
 pub mark_body-requires : goal.mark_body-requires
 mark_body-requires c =
@@ -69,8 +62,8 @@ mark_body-requires c =
 -- what the call marks
 body : (c : After-mark_body)
     → (let t = c.args.table.now in
-    c.body_of.result.now ≡ body_words_at (words_from (headed_at (headed_to c.args.rules t) (c.loop-p.p - 1)).rule t))
-body c = c.body_of.ensures ∙ ap body_words_at c.words_of-words.ensures
+    c.body.result.now ≡ body_words_at (words_from (headed_at (headed_to c.args.rules t) (c.loop-p.p - 1)).rule t))
+body c = c.body.ensures ∙ ap body_words_at c.rule_of-rule.ensures
 
 pub next_head-p-requires : goal.next_head-p-requires
 next_head-p-requires c = let r = room (goal.at.next_head-p-requires c).In-loop-p in omega (arith, r)

@@ -9,6 +9,7 @@ use lib.Seq.{length-take-le}
 use Rattle.words.specs.Lists.{any}
 use Rattle.aspif.specs.Rules.{bodies_of}
 use Rattle.aspif.specs.Tables.{is_weighted, heads_at, body_at}
+use Rattle.aspif.proofs.Cursors.{shape_of}
 use Rattle.heads.proofs.Starts.{heads-few}
 use Rattle.loops.specs.Relevance.{RelevantPairs}
 use Rattle.loops.specs.Edges.{is_at, Gathered}
@@ -24,12 +25,12 @@ use Rattle.loops.proofs.edges.mark_rule.Tie as tie
 pub gather-n-requires : goal.gather-n-requires
 gather-n-requires c =
     let s = c in
-    (rw c.heads_of.ensures (heads-few s.args.words.now s.requires.rule.0), s.requires.sizes.1)
+    (rw c.heads.ensures (heads-few s.args.rule.now.words.now (shape_of s.args.rule.now.words.now s.args.rule.now.sound)), s.requires.sizes.1)
 
 -- the places in the row
 module _ (c : After-gather-n) where
   abbrev ws : List ℤ
-  ws = c.args.words.now
+  ws = c.args.rule.now.words.now
 
   abbrev row : List ℕ
   row = c.gather-n.new.row
@@ -38,10 +39,10 @@ module _ (c : After-gather-n) where
   n = c.gather-n.result
 
   here : Gathered c.args.places.now (heads_at ws) row n
-  here = rw c.heads_of.ensures at c.gather-n.ensures
+  here = rw c.heads.ensures at c.gather-n.ensures
 
   within : n ≤ length row
-  within = omega (arith, here.most, heads-few ws c.requires.rule.0, c.gather-n.auto.row)
+  within = omega (arith, here.most, heads-few ws (shape_of ws c.args.rule.now.sound), c.gather-n.auto.row)
 
 pub returns-then-n-eq0 : goal.returns-then-n-eq0
 returns-then-n-eq0 c =
@@ -58,7 +59,7 @@ module _ (c : After-is_weighted) where
   weighted = sym c.is_weighted.ensures
 
   relevant : RelevantPairs g.args.relevant.now (body_at (ws g))
-  relevant = g.requires.rule.1 (omega (arith, (here g).most, c.if-n-eq0.false))
+  relevant = g.requires.entries (omega (arith, (here g).most, c.if-n-eq0.false))
 
 pub mark_pairs-requires : goal.mark_pairs-requires
 mark_pairs-requires c =
@@ -70,7 +71,7 @@ returns-then-is_weighted c =
     let m = c in
     let b = c in
     let w = (goal.at.returns-then-is_weighted c).After-is_weighted in
-    weight-more (g w).args.places.now (ws (g w)) (take (n (g w)) (row (g w))) b.body_of.ensures (here (g w)).has (g w).args.relevant.now m.mark_pairs.ensures
+    weight-more (g w).args.places.now (ws (g w)) (take (n (g w)) (row (g w))) b.body.ensures (here (g w)).has (g w).args.relevant.now m.mark_pairs.ensures
     (weighted w ∙ b.if-is_weighted.true) (relevant w)
 
 pub mark_body-requires : goal.mark_body-requires
@@ -83,7 +84,7 @@ returns c =
     let m = c in
     let b = c in
     let w = (goal.at.returns c).After-is_weighted in
-    plain_more (g w).args.places.now (ws (g w)) (take (n (g w)) (row (g w))) b.body_of-2.ensures (here (g w)).has m.mark_body.ensures (weighted w ∙ b.if-is_weighted.false)
+    plain_more (g w).args.places.now (ws (g w)) (take (n (g w)) (row (g w))) b.body-2.ensures (here (g w)).has m.mark_body.ensures (weighted w ∙ b.if-is_weighted.false)
 
 pub slice_bounds-row-end : goal.slice_bounds-row-end
 slice_bounds-row-end c = within (g (goal.at.slice_bounds-row-end c).After-is_weighted)

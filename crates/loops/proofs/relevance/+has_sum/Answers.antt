@@ -80,7 +80,7 @@ pub returns-then-has_sum : goal.returns-then-has_sum
 returns-then-has_sum t c =
     let d = (goal.at.returns-then-has_sum t c).After-variable_of-w in
     let rest = has_sum c.args.low c.args.high (others c.args.x (paired (drop 2 c.args.pairs.now))) in
-    sym (halves t d c.less.ensures c.less-2.ensures c.has_sum-2.ensures ∙ ap (λ (b : Bool). b || rest) c.if-has_sum.true)
+    sym (halves t d c.saturating_sub.ensures c.saturating_sub-2.ensures c.has_sum-2.ensures ∙ ap (λ (b : Bool). b || rest) c.if-has_sum.true)
 
 pub has_sum-requires-3 : goal.has_sum-requires-3
 has_sum-requires-3 t c = let d = (goal.at.has_sum-requires-3 t c).After-variable_of-w in (shorter t d, rest-sums t d)
@@ -90,4 +90,4 @@ returns t c =
     let d = (goal.at.returns t c).After-variable_of-w in
     let rest = has_sum c.args.low c.args.high (others c.args.x (paired (drop 2 c.args.pairs.now))) in
     (rw (own t d, tail_of 2 c.args.pairs.now) at c.has_sum-3.ensures)
-    ∙ sym (halves t d c.less.ensures c.less-2.ensures c.has_sum-2.ensures ∙ ap (λ (b : Bool). b || rest) c.if-has_sum.false)
+    ∙ sym (halves t d c.saturating_sub.ensures c.saturating_sub-2.ensures c.has_sum-2.ensures ∙ ap (λ (b : Bool). b || rest) c.if-has_sum.false)

@@ -1,9 +1,7 @@
-use mathlib.Core.Path.{◌≡◌}
 use mathlib.Core.Bool.{cond}
 use mathlib.Core.List.{List}
-use Prim.Native.Nat.{ℕ, ◌-◌}
+use Prim.Native.Nat.{ℕ, ◌*◌}
 use lib.IntN.{ℤ}
-use lib.ListN.{length}
 use Rattle.weights.specs.Weights.{Weighted, paired}
 use Rattle.loops.specs.Relevance.{is_relevant}
 use Rattle.loops.proofs.Filling.{Filled}
@@ -13,8 +11,5 @@ use Rattle.loops.proofs.relevance.fill_pairs.Given as goal
 abbrev pub entry : ℕ → List ℤ → Weighted → ℕ
 entry bound pairs x = cond (is_relevant bound (paired pairs) x.literal) 1 0
 
-abbrev pub invariant-loop-i : goal.invariant-loop-i
-invariant-loop-i l = Filled (entry l.bound l.pairs) l.pairs l.entries l.n l.i × (length l.entries ≡ length l.initial.entries)
-
-abbrev pub decreases-loop-i : goal.decreases-loop-i
-decreases-loop-i l = length l.pairs - l.i
+abbrev pub invariant-loop-n : goal.invariant-loop-n
+invariant-loop-n l = Filled (entry l.bound l.pairs) l.pairs l.entries l.n (2 * l.n)

@@ -38,7 +38,7 @@ pub returns : goal.returns
 returns c =
     let d = (goal.at.returns c).After-sum_of in
     let b = d.args.bound in
-    let low = c.less.ensures ∙ ap (λ (w : ℕ). b - w) (weight d) in
+    let low = c.saturating_sub.ensures ∙ ap (λ (w : ℕ). b - w) (weight d) in
     rw (own d) at c.has_sum.ensures
     ∙ ap (λ (n : ℕ). has_sum n b (others d.args.literal (all d))) low
     ∙ sym (relevant-by-sums b (all d) _ d.requires.0 d.requires.2)

@@ -1,6 +1,6 @@
 -- `by_name::body_of` meets its contract: a record that holds a body holds no other, and one without a count holds none.
 -- Assumes nothing.
-use mathlib.Core.Path.{◌≡◌, sym, ◌∙◌, ap}
+use mathlib.Core.Path.{◌≡◌, sym, ◌∙◌}
 use mathlib.Core.Bool.{false}
 use mathlib.Core.List.{List, ◌++◌}
 use Prim.Native.Nat.{ℕ, ◌+◌, ◌-◌, ◌*◌, ◌≤◌}
@@ -10,6 +10,7 @@ use lib.Dec.{eqb}
 use lib.IntN.{ℤ, pos}
 use lib.ListN.{length, take, drop, get_or, length-drop}
 use lib.Seq.{length-take-le, take_at}
+use Rattle.std.specs.Prelude.{None}
 use Rattle.words.specs.Limits.{largest}
 use Rattle.words.specs.Literals.{same_list}
 use Rattle.weights.specs.Weights.{most_weighted}
@@ -20,10 +21,8 @@ use Rattle.names.proofs.by_name.body_of.Goals as goal
 module _ (m : List ℤ) (name : ℕ) (high : name ≤ largest) {called : List ℤ → ℕ} (C : Called m called) (above : 1 ≤ name) (L : List ℤ)
     (short : length L ≤ most_weighted) where
   -- no count
-  nothing : {count : ℕ} → Counted (get_or m (width * name) (pos 0)) count → count ≡ 0 → eqb (called L) name ≡ false
-  nothing K e =
-      sym (C.stands name above high L short)
-      ∙ holds-none m L name (omega (arith, C.long)) (rw add-one (K.none e (length L) (omega arith)))
+  nothing : Counted (get_or m (width * name) (pos 0)) None → eqb (called L) name ≡ false
+  nothing K = sym (C.stands name above high L short) ∙ holds-none m L name (omega (arith, C.long)) (rw add-one (K (length L) short))
 
   -- n literals, which stand at the front of the row
   body : (n : ℕ) (row rest : List ℤ) → n ≤ most_weighted → get_or m (width * name) (pos 0) ≡ pos (n + 1) → row ≡ take n (drop (width * name + 1) m) ++ rest
@@ -38,21 +37,16 @@ module _ (m : List ℤ) (name : ℕ) (high : name ≤ largest) {called : List �
 pub returns-then-bodies-ne-BODY_WORDS : goal.returns-then-bodies-ne-BODY_WORDS
 returns-then-bodies-ne-BODY_WORDS c = λ called C above L short. absurd (c.if-bodies-ne-BODY_WORDS.true C.long)
 
-pub returns-then-count-eq0 : goal.returns-then-count-eq0
-returns-then-count-eq0 c =
-    let s = c in
-    λ called C above L short. nothing s.args.bodies.now s.args.name s.requires.0 C above L short c.count_of-count.ensures c.if-count-eq0.true
+pub returns-in_err-count : goal.returns-in_err-count
+returns-in_err-count c =
+    let a = c.args in
+    rw c.from_residual.ensures (λ called C above L short. nothing a.bodies.now a.name c.requires.0 C above L short c.in_err-count.ensures)
 
 pub returns : goal.returns
 returns c =
-    let d = c in
-    let s = c in
-    let a = s.args in
-    let K = d.count_of-count.ensures in
-    let count = d.count_of-count.result in
-    let h : 1 ≤ count = omega (arith, d.if-count-eq0.false) in
-    let n : width * a.name + count - (width * a.name + 1) ≡ count - 1 = omega arith in
-    let p : count ≡ count - 1 + 1 = omega arith in
-    let few : count - 1 ≤ most_weighted = omega (arith, K.most) in
-    let row = rw n at c.widen.ensures in
-    (few, λ called C above L short. body a.bodies.now a.name s.requires.0 C above L short (count - 1) _ _ few (K.is h ∙ ap pos p) row)
+    let a = c.args in
+    let K = c.in_ok-count.ensures in
+    let n = c.in_ok-count.count in
+    let size : width * a.name + 1 + n - (width * a.name + 1) ≡ n = omega arith in
+    let row = rw size at c.widen.ensures in
+    (K.0, λ called C above L short. body a.bodies.now a.name c.requires.0 C above L short n _ _ K.0 (rw add-one K.1) row)

@@ -1,6 +1,6 @@
--- `by_name::place_of` meets its contract: the key of the literals before i, mixed with the others, is the whole key.
+-- `by_name::place_of` meets its contract: the key of the literals so far, mixed with the others, is the whole key.
 -- Assumes nothing.
-use mathlib.Core.Path.{◌≡◌, refl, sym, ap, ◌∙◌}
+use mathlib.Core.Path.{◌≡◌, sym, ap, ◌∙◌}
 use mathlib.Core.List.{List}
 use Prim.Native.Nat.{ℕ, ◌+◌, ◌/◌, ◌≤◌, ◌<◌}
 use native.Mathlib.Omega.{arith}
@@ -8,6 +8,7 @@ use native.Mathlib.Numerals.{add-one}
 use lib.IntN.{ℤ, pos}
 use lib.ListN.{length, drop, get_or, drop_of_length-le}
 use lib.Seq.{drop-cons}
+use Rattle.std.proofs.Common.{rules}
 use Rattle.words.proofs.Words.{back}
 use Rattle.names.specs.ByName.{mixed, key_from, place_of}
 use Rattle.names.proofs.by_name.place_of.Goals as goal
@@ -24,20 +25,17 @@ place_is : (k : ℕ) (l : List ℤ) → k ≡ key_from 0 l → k / 524288 ≡ pl
 unfolding place_of
 place_is k l e = ap (λ (n : ℕ). n / 524288) e
 
-pub loop-i-preserved : goal.loop-i-preserved
-loop-i-preserved c =
-    let l = c.loop-i in
+pub loop-word-preserved : goal.loop-word-preserved
+loop-word-preserved c =
+    let l = c.loop-word in
     let ws = c.args.body.now in
-    let x = get_or ws l.i (pos 0) in
-    let t = c.loop-i-test.true in
-    let k : c.mix-key.result ≡ mixed l.key x = rw (back x c.mix-arg-1.given) at c.mix-key.ensures.0 in
-    (omega arith, c.mix-key.ensures.1, ap (λ (n : ℕ). key_from n (drop (l.i + 1) ws)) k ∙ sym (key-on l.key ws l.i t) ∙ l.invariant.2)
+    let i = l.word-index in
+    let x = get_or ws i (pos 0) in
+    let k : c.mix-key.result ≡ mixed l.key x = rw (back x (search rules)) at c.mix-key.ensures.0 in
+    (c.mix-key.ensures.1, ap (λ (n : ℕ). key_from n (drop (i + 1) ws)) k ∙ sym (key-on l.key ws i c.loop-word-test.true) ∙ l.invariant.1)
 
 pub returns : goal.returns
 returns c =
-    let l = c.loop-i in
+    let l = c.loop-word in
     let ws = c.args.body.now in
-    (place_is l.key ws (sym (key-end l.key ws l.i c.loop-i-test.false) ∙ l.invariant.2), omega (arith, l.invariant.1))
-
-pub loop-i-init : goal.loop-i-init
-loop-i-init c = (omega arith, omega arith, refl)
+    (place_is l.key ws (sym (key-end l.key ws l.word-index c.loop-word-test.false) ∙ l.invariant.1), omega (arith, l.invariant.0))

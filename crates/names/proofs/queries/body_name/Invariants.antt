@@ -1,13 +1,12 @@
 use mathlib.Core.Path.{◌≡◌}
 use mathlib.Core.Bool.{Bool}
-use mathlib.Core.List.{List}
-use Prim.Native.Nat.{◌-◌}
+use mathlib.Core.List.{List, map}
 use lib.IntN.{ℤ}
 use Rattle.words.specs.Lists.{any}
 use Rattle.words.specs.Literals.{same_list}
 use Rattle.aspif.specs.Rules.{Rule, expand}
-use Rattle.aspif.specs.Tables.{rules_at}
-use Rattle.names.proofs.ByRule.{Course, rest}
+use Rattle.aspif.specs.Tables.{rule_at, rules_at, starts_at}
+use Rattle.names.proofs.ByRule.{Course}
 use Rattle.names.proofs.queries.body_name.Given as goal
 
 -- the plain rules with the body
@@ -15,7 +14,7 @@ abbrev pub with : List ℤ → Rule → Bool
 with body r = same_list body r.body
 
 abbrev pub invariant-loop-k : goal.invariant-loop-k
-invariant-loop-k l = (c : Course l.table l.rules l.names l.names l.k l.i) × (any (with l.body) (expand (rules_at l.rules l.table)) ≡ any (with l.body) (expand (rest c)))
-
-abbrev pub decreases-loop-k : goal.decreases-loop-k
-decreases-loop-k l = l.rules - l.k
+invariant-loop-k l =
+    let starts = starts_at l.k-iterator.iter.left l.k-iterator.iter.words.now in
+    Course l.table l.rules l.names l.names l.k-iterator.count starts
+    × (any (with l.body) (expand (rules_at l.rules l.table)) ≡ any (with l.body) (expand (map rule_at starts)))

@@ -3,14 +3,13 @@ use mathlib.Core.Bool.{◌&&◌}
 use Rattle.words.specs.Literals.{same_list}
 use Rattle.aspif.specs.Rules.{is_normal}
 use Rattle.aspif.specs.Tables.{rule_at}
-use Rattle.aspif.proofs.Cursors.{shape_of}
 use Rattle.names.proofs.Asked.{completing-bodies}
 use Rattle.names.proofs.queries.completes.Goals as goal
 use Rattle.names.proofs.queries.completes.Goals.{After-is_normal_with}
 
 tells : (c : After-is_normal_with)
     → (let a = c.args in
-    let rule = rule_at a.words.now in
+    let rule = rule_at a.rule.now.words.now in
     (is_normal rule.kind && same_list rule.heads a.heads.now) ≡ c.is_normal_with.result)
 tells c = sym c.is_normal_with.ensures
 
@@ -22,6 +21,3 @@ returns-then-is_normal_with c =
 
 pub returns : goal.returns
 returns c = λ bodies called C t above e. rw (completing-bodies (rule_at _) called _ _, tells (goal.at.returns c).After-is_normal_with ∙ c.if-is_normal_with.false)
-
-pub is_normal_with-requires : goal.is_normal_with-requires
-is_normal_with-requires c = shape_of _ c.requires.rule

@@ -5,7 +5,6 @@ use lib.IntN.{ℤ}
 use Rattle.words.specs.Literals.{same_list}
 use Rattle.aspif.specs.Rules.{InputRule, is_normal}
 use Rattle.aspif.specs.Tables.{rule_at}
-use Rattle.aspif.proofs.Cursors.{shape_of}
 use Rattle.names.proofs.Asked.{normal-bodies}
 use Rattle.names.proofs.queries.constrains.Goals as goal
 use Rattle.names.proofs.queries.constrains.Goals.{After-is_normal_with}
@@ -15,7 +14,7 @@ module _ (c : After-is_normal_with) where
   body = c.args.body.now
 
   abbrev rule : InputRule
-  rule = rule_at c.args.words.now
+  rule = rule_at c.args.rule.now.words.now
 
   -- what the call tells of it
   tells : (is_normal rule.kind && same_list rule.heads []) ≡ c.is_normal_with.result
@@ -30,6 +29,3 @@ pub returns : goal.returns
 returns c =
     let d = (goal.at.returns c).After-is_normal_with in
     rw (normal-bodies (rule d) [] (same_list (body d)), tells d ∙ c.if-is_normal_with.false)
-
-pub is_normal_with-requires : goal.is_normal_with-requires
-is_normal_with-requires c = shape_of _ c.requires

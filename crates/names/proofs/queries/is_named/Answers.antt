@@ -4,13 +4,12 @@ use native.Mathlib.Omega.{arith}
 use lib.Dec.{eqb}
 use lib.Seq.{length-take-le}
 use Rattle.aspif.specs.Tables.{is_weighted, body_words_at}
-use Rattle.aspif.proofs.Cursors.{shape_of}
 use Rattle.aspif.proofs.SoundWeights.{Weighing, weighing}
 use Rattle.names.proofs.Asked.{weight-bodies, plain-bodies, plain_entry, told-few, named-body, named_none}
 use Rattle.names.proofs.queries.is_named.Goals as goal
 use Rattle.names.proofs.queries.is_named.Goals.{After-is_weighted, Else-not-is_weighted}
 
-tells : (c : After-is_weighted) → is_weighted c.args.words.now ≡ c.is_weighted.result
+tells : (c : After-is_weighted) → is_weighted c.args.rule.now.words.now ≡ c.is_weighted.result
 tells c = sym c.is_weighted.ensures
 
 pub returns-then-not-is_weighted : goal.returns-then-not-is_weighted
@@ -19,40 +18,37 @@ returns-then-not-is_weighted c =
     let a = c.args in
     λ bodies called C t above e.
     rw (plain-bodies _ p)
-    (ap (λ n. eqb n a.name) (e ∙ plain_entry _ p called) ∙ sym (or-false (eqb (called (body_words_at a.words.now)) a.name)))
+    (ap (λ n. eqb n a.name) (e ∙ plain_entry _ p called) ∙ sym (or-false (eqb (called (body_words_at a.rule.now.words.now)) a.name)))
 
 -- a weight rule
 module _ (c : Else-not-is_weighted) where
-  weighted : is_weighted c.args.words.now ≡ true
+  weighted : is_weighted c.args.rule.now.words.now ≡ true
   weighted = tells c.before ∙ c.if-not-is_weighted.false
 
-  weighs : Weighing c.args.words.now
-  weighs = weighing _ c.requires.rule weighted
+  weighs : Weighing c.args.rule.now.words.now
+  weighs = weighing _ c.args.rule.now.sound weighted
 
 pub slice_bounds-is_body-end : goal.slice_bounds-is_body-end
 slice_bounds-is_body-end c =
     let d = c in
     let s = c in
-    sym (length-take-le _ _ (omega (arith, told-few _ s.args.row.now s.args.name d.in-Body.is s.requires.row.1.1, s.requires.row.0)))
+    sym (length-take-le _ _ (omega (arith, told-few _ s.args.row.now s.args.name d.in-Some.is s.requires.row.1.1, s.requires.row.0)))
 
 pub is_body-requires : goal.is_body-requires
 is_body-requires c =
     let w = weighs (goal.at.is_body-requires c).Else-not-is_weighted in
-    rw (c.bound_of.ensures, c.body_of.ensures) (w.bound, w.light, w.distinct)
+    rw (c.bound.ensures, c.body.ensures) (w.bound, w.light, w.distinct)
 
-pub returns-in-Body : goal.returns-in-Body
-returns-in-Body c =
+pub returns-in-Some : goal.returns-in-Some
+returns-in-Some c =
     let b = c in
-    let d = (goal.at.returns-in-Body c).Else-not-is_weighted in
+    let d = (goal.at.returns-in-Some c).Else-not-is_weighted in
     λ bodies called C t above e.
     rw (weight-bodies _ (weighted d))
-    ((rw (b.bound_of.ensures, b.body_of.ensures) at c.is_body.ensures)
-    ∙ sym (named-body (weighs d) (C (weighted d)) above _ b.in-Body.is t))
+    ((rw (b.bound.ensures, b.body.ensures) at c.is_body.ensures)
+    ∙ sym (named-body (weighs d) (C (weighted d)) above _ b.in-Some.is t))
 
-pub returns-in-Nothing : goal.returns-in-Nothing
-returns-in-Nothing c =
-    let d = (goal.at.returns-in-Nothing c).Else-not-is_weighted in
-    λ bodies called C t above e. rw (weight-bodies _ (weighted d)) (sym (named_none (weighs d) (C (weighted d)) above _ c.in-Nothing.is t))
-
-pub body_of-requires : goal.body_of-requires
-body_of-requires c = shape_of _ c.requires.rule
+pub returns-in-None : goal.returns-in-None
+returns-in-None c =
+    let d = (goal.at.returns-in-None c).Else-not-is_weighted in
+    λ bodies called C t above e. rw (weight-bodies _ (weighted d)) (sym (named_none (weighs d) (C (weighted d)) above _ c.in-None.is t))

@@ -2,7 +2,6 @@ use mathlib.Core.Path.{◌≡◌, sym, ◌∙◌}
 use mathlib.Core.Bool.{true, false}
 use Rattle.words.specs.Lists.{any}
 use Rattle.aspif.specs.Tables.{is_weighted, heads_at, body_words_at, rule_at}
-use Rattle.aspif.proofs.Cursors.{shape_of}
 use Rattle.aspif.proofs.SoundWeights.{weighing}
 use Rattle.names.specs.Queries.{is_inside, asks_heads}
 use Rattle.names.proofs.Choosing.{also-none, also_one}
@@ -14,7 +13,7 @@ use Rattle.names.proofs.queries.mark_asked.Reads as reads
 use Rattle.names.proofs.queries.mark_asked.Tie as tie
 
 heads : (c : After-asks_heads)
-    → (let a = c.args in asks_heads a.query a.inside.now (heads_at a.words.now) ≡ c.asks_heads.result)
+    → (let a = c.args in asks_heads a.query a.inside.now (heads_at a.rule.now.words.now) ≡ c.asks_heads.result)
 heads c = sym c.asks_heads.ensures
 
 pub returns-then-not-asks_heads : goal.returns-then-not-asks_heads
@@ -22,18 +21,18 @@ returns-then-not-asks_heads c = λ called C e. rw (asked-bodies (rule_at _) _ _ 
 
 -- the query asks for the heads
 module _ (c : After-is_weighted) where
-  weighted : is_weighted c.args.words.now ≡ c.is_weighted.result
+  weighted : is_weighted c.args.rule.now.words.now ≡ c.is_weighted.result
   weighted = sym c.is_weighted.ensures
 
-  asked : (let a = c.args in asks_heads a.query a.inside.now (heads_at a.words.now) ≡ true)
+  asked : (let a = c.args in asks_heads a.query a.inside.now (heads_at a.rule.now.words.now) ≡ true)
   asked = heads (view.up-After-asks_heads tie.the-claims reads.Pre reads.Post tie.handed_clauses c.before.before.before) ∙ c.if-not-asks_heads.false
 
 pub mark_bodies-requires : goal.mark_bodies-requires
 mark_bodies-requires c =
     let d = c in
     let s = c in
-    let w = weighing _ s.requires.rule (weighted (goal.at.mark_bodies-requires c).After-is_weighted ∙ d.if-is_weighted.true) in
-    rw (c.bound_of.ensures, c.body_of.ensures) (w.bound, w.few, w.light, w.rises, s.requires.found)
+    let w = weighing _ s.args.rule.now.sound (weighted (goal.at.mark_bodies-requires c).After-is_weighted ∙ d.if-is_weighted.true) in
+    rw (c.bound.ensures, c.body.ensures) (w.bound, w.few, w.light, w.rises, s.requires.found)
 
 pub returns-then-is_weighted : goal.returns-then-is_weighted
 returns-then-is_weighted c =
@@ -41,16 +40,16 @@ returns-then-is_weighted c =
     let d = c in
     λ called C e.
     rw (asked-bodies (rule_at _) _ _ called, asked (goal.at.returns-then-is_weighted c).After-is_weighted, weight-bodies _ (weighted (goal.at.returns-then-is_weighted c).After-is_weighted ∙ d.if-is_weighted.true))
-    (rw (b.bound_of.ensures, b.body_of.ensures) at (b.mark_bodies.ensures called (C (weighted (goal.at.returns-then-is_weighted c).After-is_weighted ∙ d.if-is_weighted.true))))
+    (rw (b.bound.ensures, b.body.ensures) at (b.mark_bodies.ensures called (C (weighted (goal.at.returns-then-is_weighted c).After-is_weighted ∙ d.if-is_weighted.true))))
 
 -- a plain rule
 module _ (c : After-any_inside) where
-  plain : is_weighted c.args.words.now ≡ false
+  plain : is_weighted c.args.rule.now.words.now ≡ false
   plain = let d = c in weighted (view.up-After-is_weighted tie.the-claims reads.Pre reads.Post tie.handed_clauses c.before.before.before.before) ∙ d.if-is_weighted.false
 
   inside : (let a = c.args in
-      any (is_inside a.inside.now) (body_words_at a.words.now) ≡ c.any_inside.result)
-  inside = sym (rw c.body_of-2.ensures at c.any_inside.ensures)
+      any (is_inside a.inside.now) (body_words_at a.rule.now.words.now) ≡ c.any_inside.result)
+  inside = sym (rw c.body-2.ensures at c.any_inside.ensures)
 
 pub returns-then-not-any_inside : goal.returns-then-not-any_inside
 returns-then-not-any_inside c =
@@ -61,7 +60,7 @@ returns-then-not-any_inside c =
     let out = inside (goal.at.returns-then-not-any_inside c).After-any_inside ∙ d.if-not-any_inside.true in
     λ called C e.
     rw (asked-bodies (rule_at _) _ _ called, asked (goal.at.returns-then-not-any_inside c).After-is_weighted, plain-bodies _ p, out)
-    (also_one s.requires.found m.mark.ensures.marks (e ∙ plain_entry _ p called))
+    (also_one s.requires.found m.mark.ensures.marks (m.from.ensures ∙ e ∙ plain_entry _ p called))
 
 pub returns-else-not-any_inside : goal.returns-else-not-any_inside
 returns-else-not-any_inside c =
@@ -69,12 +68,3 @@ returns-else-not-any_inside c =
     λ called C e.
     rw (asked-bodies (rule_at _) _ _ called, asked (goal.at.returns-else-not-any_inside c).After-is_weighted, plain-bodies _ (plain d), inside d ∙ c.if-not-any_inside.false)
     (also-none _)
-
-pub asks_heads-requires : goal.asks_heads-requires
-asks_heads-requires c = shape_of _ c.requires.rule
-
-pub body_of-requires : goal.body_of-requires
-body_of-requires c = shape_of _ c.requires.rule
-
-pub body_of-requires-2 : goal.body_of-requires-2
-body_of-requires-2 c = shape_of _ c.requires.rule

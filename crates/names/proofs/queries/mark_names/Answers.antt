@@ -1,99 +1,66 @@
 use mathlib.Core.Path.{◌≡◌, sym, ◌∙◌}
 use mathlib.Core.Logic.{inl}
-use mathlib.Core.List.{List, ◌++◌}
+use mathlib.Core.List.{List, map}
 use Prim.Native.Nat.{ℕ}
 use native.Mathlib.Omega.{arith}
 use lib.IntN.{ℤ}
-use lib.ListN.{length, replicate, drop, length-replicate}
+use lib.ListN.{length, replicate, length-replicate}
 use Rattle.words.specs.Limits.{entries}
-use Rattle.words.proofs.Parts.{tail_of}
-use Rattle.aspif.specs.Rules.{expand_rule, expand}
-use Rattle.aspif.specs.Tables.{rule_at, rules_at}
+use Rattle.aspif.specs.Rules.{expand}
+use Rattle.aspif.specs.Tables.{rule_at, rules_at, starts_at}
+use Rattle.aspif.proofs.Cursors.{starts-length, rules_from_starts}
 use Rattle.marks.proofs.Sets.{MarkedSoFar, found_none, found_all}
-use Rattle.names.specs.Minimal.{AlsoMarks}
 use Rattle.names.specs.Queries.{Kept, asked_names}
 use Rattle.names.proofs.Asked.{asked-more, found-more, zero-found}
-use Rattle.names.proofs.ByRule.{course-start, rest, no-plain-rules, Turn, turn}
-use borrow.Author.Rules.{rules}
+use Rattle.names.proofs.ByRule.{course-start, no-plain-rules, Turn, turn}
 use Rattle.names.proofs.queries.mark_names.Goals as goal
-use Rattle.names.proofs.queries.mark_names.Goals.{In-loop-k, After-mark_asked}
-use Rattle.names.proofs.queries.mark_names.Lts.View as view
-use Rattle.names.proofs.queries.mark_names.Reads as reads
-use Rattle.names.proofs.queries.mark_names.Tie as tie
-
--- the words from i on, and the rule there
-module _ (c : In-loop-k) where
-  abbrev t : List ℤ
-  t = c.args.table.now
-
-  abbrev i : ℕ
-  i = c.loop-k.i
-
-  at : Turn c.loop-k.invariant.0
-  at = turn c.loop-k.invariant.0 c.loop-k-test.true
-
--- what is left to mark
-left : (d : In-loop-k) (called : List ℤ → ℕ) {m whole : List ℕ}
-    → (let a = d.args in
-    MarkedSoFar m (asked_names a.query a.inside.now called (expand (rest d.loop-k.invariant.0))) whole
-    → MarkedSoFar m (asked_names a.query a.inside.now called (expand_rule (rule_at (drop (i d) (t d))))
-    ++ asked_names a.query a.inside.now called (expand (rest (at d).next))) whole)
-left d called f = rw ((at d).splits, asked-more (rule_at (drop (i d) (t d))) (rest (at d).next) _ _ called) at f
-
--- what the call marks
-told : (c : After-mark_asked) (called : List ℤ → ℕ)
-    → (let d = (view.up-In-loop-k tie.the-claims reads.Pre reads.Post goal.the-invariant-loop-k goal.the-decreases-loop-k tie.handed_clauses c.before.before.before.before.before) in
-    let a = d.args in
-    Kept a.names.now a.bodies.now called (rules_at a.rules (t d))
-    → AlsoMarks d.loop-k.found c.mark_asked.new.found
-    (asked_names a.query a.inside.now called (expand_rule (rule_at (drop (i d) (t d))))))
-told c called K =
-    let d = (view.up-In-loop-k tie.the-claims reads.Pre reads.Post goal.the-invariant-loop-k goal.the-decreases-loop-k tie.handed_clauses c.before.before.before.before.before) in
-    rw (tail_of (i d) (t d)) at (c.mark_asked.ensures called (rw (tail_of (i d) (t d)) (λ w. K.by_name ((at d).weighted w))) (rw (tail_of (i d) (t d)) ((at d).kept called K.by_rule)))
+use Rattle.names.proofs.queries.mark_names.Goals.{After-mark_asked}
 
 -- as many marks as there are entries
 zeros-long : (l : List ℕ) → l ≡ replicate entries 0 → length l ≡ entries
 zeros-long l e = rw e (length-replicate {A = ℕ} entries 0)
 
+-- the rule at hand
+at : (c : After-mark_asked)
+    → (let a = c.args in
+    let after = c.next.new.self.iter in
+    Turn a.table.now a.rules a.names.now a.names.now c.loop-k.k-iterator.count c.in-Some.rule.words.now (starts_at after.left after.words.now))
+at c = turn c.loop-k.invariant.0 c.in-Some.ensures.steps.0
+
+pub loop-k-init-derived : goal.loop-k-init-derived
+loop-k-init-derived c =
+    let s = c.ranges.rules.fits in
+    let n = starts-length c.rules_in.result.left c.rules_in.result.words.now in
+    rw (c.into_iter-k-iterator.ensures.into_iter_gives, c.enumerate-k-items.ensures.source, c.enumerate-k-items.ensures.count) ((tt, tt, inl (omega (arith, n, c.rules_in.ensures.start.1, s))), tt)
+
 pub loop-k-init : goal.loop-k-init
 loop-k-init c =
     let s = c in
-    (course-start s.args.table.now s.args.rules s.args.names.now s.requires.program.0.1.sound, zeros-long _ s.requires.found, λ called K. rw s.requires.found (found_none _))
+    rw (c.into_iter-k-iterator.ensures.into_iter_gives, c.enumerate-k-items.ensures.source, c.enumerate-k-items.ensures.count, c.rules_in.ensures.start.0, c.rules_in.ensures.start.1)
+    (course-start s.args.table.now s.args.rules s.args.names.now, zeros-long _ s.requires.found, λ called K. rw (s.requires.found, rules_from_starts s.args.rules s.args.table.now) (found_none _))
 
-pub offset_bounds-table-i : goal.offset_bounds-table-i
-offset_bounds-table-i c = let w = c.loop-k.invariant.0.cursor.within in search rules
-
-pub bounds-names-k : goal.bounds-names-k
-bounds-names-k c = omega (arith, (goal.at.bounds-names-k c).In-loop-k.requires.program.1, c.loop-k-test.true)
-
-pub mark_asked-requires : goal.mark_asked-requires
-mark_asked-requires c = let d = (goal.at.mark_asked-requires c).In-loop-k in rw (tail_of (i d) (t d)) (record { rule = (at d).sound; found = d.loop-k.invariant.1 })
-
-pub next_rule-i-requires : goal.next_rule-i-requires
-next_rule-i-requires c = record { here = (at (goal.at.next_rule-i-requires c).In-loop-k).here }
+-- what is left to mark once the rule's names are
+left : (c : After-mark_asked) (called : List ℤ → ℕ)
+    → (let a = c.args in Kept a.names.now a.bodies.now called (rules_at a.rules a.table.now)
+    → MarkedSoFar c.mark_asked.new.found (asked_names a.query a.inside.now called (expand (map rule_at (starts_at c.next.new.self.iter.left c.next.new.self.iter.words.now))))
+    (asked_names a.query a.inside.now called (expand (rules_at a.rules a.table.now))))
+left c called K =
+    let a = c.args in
+    let ws = c.in-Some.rule.words.now in
+    let t = at c in
+    found-more
+    (rw (c.in-Some.ensures.steps.0, asked-more (rule_at ws) (map rule_at (starts_at c.next.new.self.iter.left c.next.new.self.iter.words.now)) a.query a.inside.now called) at (c.loop-k.invariant.2 called K))
+    (c.mark_asked.ensures called (λ w. K.by_name (t.weighted w)) (rw c.in-Some.ensures.steps.1 (t.kept called K.by_rule)))
 
 pub loop-k-preserved : goal.loop-k-preserved
 loop-k-preserved c =
     let m = (goal.at.loop-k-preserved c).After-mark_asked in
-    let d = (goal.at.loop-k-preserved c).In-loop-k in
-    let l = d.loop-k in
-    rw c.next_rule-i.ensures.next.0 (
-      (at d).next,
-      m.mark_asked.auto.found ∙ l.invariant.1,
-      λ called K. found-more (left d called (l.invariant.2 called K)) (told m called K),
-    )
+    rw c.in-Some.ensures.steps.2 ((at m).next, c.mark_asked.auto.found ∙ c.loop-k.invariant.1, left m)
 
 pub returns-then-is_marked : goal.returns-then-is_marked
-returns-then-is_marked c =
-    let m = (goal.at.returns-then-is_marked c).After-mark_asked in
-    let d = (goal.at.returns-then-is_marked c).In-loop-k in
-    λ ws H. rw (← H.are) (λ called K.
-    zero-found (found-more (left d called (d.loop-k.invariant.2 called K)) (told m called K)) (sym c.is_marked.ensures ∙ c.if-is_marked.true))
+returns-then-is_marked c = λ ws H. rw (← H.are) (λ called K. zero-found (left (goal.at.returns-then-is_marked c).After-mark_asked called K) (sym c.is_marked.ensures ∙ c.if-is_marked.true))
 
 pub returns : goal.returns
 returns c =
     let l = c.loop-k in
-    λ ws H. rw (← H.are) (λ called K. inl (found_all (rw (no-plain-rules l.invariant.0 c.loop-k-test.false) at (l.invariant.2 called K))))
-
-pub loop-k-smaller : goal.loop-k-smaller
-loop-k-smaller c = omega arith
+    λ ws H. rw (← H.are) (λ called K. inl (found_all (rw (no-plain-rules c.in-None.ensures.steps.0.0) at (l.invariant.2 called K))))

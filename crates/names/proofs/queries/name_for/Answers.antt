@@ -6,7 +6,7 @@ use Rattle.names.proofs.Asked.{weight-entry, plain_entry}
 use Rattle.names.proofs.queries.name_for.Goals as goal
 use Rattle.names.proofs.queries.name_for.Goals.{After-is_weighted, After-is_same_list}
 
-weighted : (c : After-is_weighted) → is_weighted c.args.words.now ≡ c.is_weighted.result
+weighted : (c : After-is_weighted) → is_weighted c.args.rule.now.words.now ≡ c.is_weighted.result
 weighted c = sym c.is_weighted.ensures
 
 pub returns-then-is_weighted : goal.returns-then-is_weighted
@@ -14,11 +14,11 @@ returns-then-is_weighted c = let p = weighted (goal.at.returns-then-is_weighted 
 
 -- what the calls tell of a plain rule
 module _ (c : After-is_same_list) where
-  plain : is_weighted c.args.words.now ≡ false
+  plain : is_weighted c.args.rule.now.words.now ≡ false
   plain = let d = c in weighted c.before.before.before ∙ d.if-is_weighted.false
 
-  tells : (let a = c.args in same_list a.body.now (body_words_at a.words.now) ≡ c.is_same_list.result)
-  tells = sym (rw c.body_of.ensures at c.is_same_list.ensures)
+  tells : (let a = c.args in same_list a.body.now (body_words_at a.rule.now.words.now) ≡ c.is_same_list.result)
+  tells = sym (rw c.body.ensures at c.is_same_list.ensures)
 
 pub returns-then-is_same_list : goal.returns-then-is_same_list
 returns-then-is_same_list c = let d = (goal.at.returns-then-is_same_list c).After-is_same_list in λ called e. rw (plain_entry _ (plain d) _, tells d ∙ c.if-is_same_list.true)

@@ -1,5 +1,5 @@
 -- The loop: what is kept is kept, and the records before r are entered.
-use mathlib.Core.Path.{◌≡◌, refl, sym, ap, ◌∙◌}
+use mathlib.Core.Path.{◌≡◌, sym, ap, ◌∙◌}
 use mathlib.Core.List.{List}
 use Prim.Native.Nat.{ℕ, ◌≤◌}
 use native.Mathlib.Omega.{arith}
@@ -10,9 +10,6 @@ use Rattle.nogoods.specs.Records.{end_at}
 use Rattle.nogoods.proofs.Indexing.{roomy, keeps-small, keeps-room, keeps-next}
 use Rattle.nogoods.proofs.chains.cover.Goals as goal
 use Rattle.nogoods.proofs.chains.cover.Goals.{In-loop-r, After-enter}
-
-pub loop-r-init : goal.loop-r-init
-loop-r-init c = (refl, c.covered-r.ensures ∙ ap (λ (k : ℕ). get_or c.args.index.now (covered_at k) 0) (sym c.scale_of-m.ensures.value), λ stored K. K)
 
 -- the record at r
 module _ (c : In-loop-r) where
@@ -46,11 +43,6 @@ enter-requires c = let e = c in
       );
     }
 
-pub loop-r-smaller : goal.loop-r-smaller
-loop-r-smaller c =
-    let e = c in
-    omega (arith, e.end_at-end.ensures, e.loop-r-test.true)
-
 -- and the next
 module _ (c : After-enter) where
   abbrev i : In-loop-r
@@ -74,9 +66,6 @@ loop-r-preserved c =
       c.end_at-end.ensures ∙ (next (goal.at.loop-r-preserved c).After-enter (i (goal.at.loop-r-preserved c).After-enter).requires.0 (keeps (i (goal.at.loop-r-preserved c).After-enter))).1,
       λ stored K. (next (goal.at.loop-r-preserved c).After-enter stored (v.2 stored K)).0,
     )
-
-pub returns : goal.returns
-returns c = c.loop-r.invariant.2
 
 pub end_at-end-requires : goal.end_at-end-requires
 end_at-end-requires c = room c

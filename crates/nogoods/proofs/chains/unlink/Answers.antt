@@ -1,18 +1,19 @@
-use mathlib.Core.Path.{◌≡◌}
-use Prim.Native.Nat.{◌+◌, ◌-◌}
+use mathlib.Core.Path.{◌≡◌, sym, ap, ◌∙◌}
+use Prim.Native.Nat.{suc}
 use native.Mathlib.Omega.{arith}
+use Rattle.nogoods.specs.Index.{entry_of}
 use Rattle.nogoods.proofs.chains.unlink.Goals as goal
 
-pub returns-then-over-eq0 : goal.returns-then-over-eq0
-returns-then-over-eq0 c = record {
+pub returns-in-None : goal.returns-in-None
+returns-in-None c = record {
   at_start = λ e. rw c.entry_after.ensures;
-  at_place = λ y e. absurd (omega (arith, c.if-over-eq0.true));
+  at_place = λ y e. absurd (let z : 0 ≡ suc y = sym (ap entry_of c.in-None.is) ∙ e in omega arith);
 }
 
-pub returns-else-over-eq0 : goal.returns-else-over-eq0
-returns-else-over-eq0 c =
-    let s = c in
-    record {
-      at_start = λ e. absurd (c.if-over-eq0.false e);
-      at_place = λ y e. let i : s.args.m + s.args.over - 1 ≡ s.args.m + y = omega arith in rw i;
-    }
+pub returns-in-Some : goal.returns-in-Some
+returns-in-Some c = record {
+  at_start = λ e. absurd (let z : suc c.in-Some.y ≡ 0 = sym (ap entry_of c.in-Some.is) ∙ e in omega arith);
+  at_place = λ y e.
+      let z : suc c.in-Some.y ≡ suc y = sym (ap entry_of c.in-Some.is) ∙ e in
+      let i : c.in-Some.y ≡ y = omega arith in rw i;
+}

@@ -1,6 +1,5 @@
 use mathlib.Core.Path.{◌≡◌}
 use mathlib.Core.List.{List}
-use Prim.Native.Nat.{◌≤◌}
 use native.Mathlib.Omega.{arith}
 use lib.IntN.{ℤ}
 use lib.ListN.{length, length-drop}
@@ -29,12 +28,6 @@ module _ (c : After-make_room-end) where
   held : (stored : List Stored) → Keeps c.args.store.now c.args.index.now c.args.used stored
       → Keeps c.make_room-end.new.store c.make_room-end.new.index c.make_room-end.result (kept_for (length c.args.store.now) (length (words_of new)) stored)
   held stored K = rw size (c.make_room-end.ensures stored K)
-
-  end-in : c.make_room-end.result ≤ length c.make_room-end.new.store
-  end-in = (held c.requires.held.0 c.requires.held.1).holds.fits
-
-pub overflow_sub-store : goal.overflow_sub-store
-overflow_sub-store c = end-in (goal.at.overflow_sub-store c).After-make_room-end
 
 pub returns-then-store-end : goal.returns-then-store-end
 returns-then-store-end c =

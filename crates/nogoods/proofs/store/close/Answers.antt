@@ -1,12 +1,10 @@
 -- The loop keeps `Closing`: the live nogoods before `from` stand in the first `to` words.
 use Prim.Native.Nat.{◌≤◌}
-use native.Mathlib.Omega.{arith}
 use lib.ListN.{length}
 use Rattle.nogoods.specs.Records.{end_at}
-use Rattle.nogoods.proofs.Closing.{closing-start, closing-next, closing-room, closing-ends, closing-over}
-use borrow.Author.Rules.{rules}
+use Rattle.nogoods.proofs.Closing.{closing-start, closing-next, closing-room, closing-over}
 use Rattle.nogoods.proofs.store.close.Goals as goal
-use Rattle.nogoods.proofs.store.close.Goals.{In-loop-from, After-loop-from}
+use Rattle.nogoods.proofs.store.close.Goals.{In-loop-from}
 
 pub loop-from-init : goal.loop-from-init
 loop-from-init c = closing-start _ _
@@ -20,11 +18,6 @@ end_at-end-requires c = room (goal.at.end_at-end-requires c).In-loop-from
 pub keep-to-requires : goal.keep-to-requires
 keep-to-requires c = let i = (goal.at.keep-to-requires c).In-loop-from in (i.loop-from.invariant.low, room i)
 
-pub loop-from-smaller : goal.loop-from-smaller
-loop-from-smaller c =
-    let e = c in
-    omega (arith, e.end_at-end.ensures, e.loop-from-test.true)
-
 pub loop-from-preserved : goal.loop-from-preserved
 loop-from-preserved c =
     let e = c in
@@ -32,22 +25,8 @@ loop-from-preserved c =
     rw e.end_at-end.ensures
     (closing-next i.loop-from.invariant i.requires i.loop-from-test.true _ _ c.keep-to.ensures)
 
--- the part that becomes 0
-ends : (c : After-loop-from) → let l = c.loop-from in let u = c.args.used in
-    (l.to ≤ u) × (u ≤ length l.store)
-ends c =
-    let l = c.loop-from in
-    let b = closing-ends l.invariant c.requires in
-    (omega (arith, l.invariant.low, b.0), b.1)
-
-pub offset_bounds-store-to : goal.offset_bounds-store-to
-offset_bounds-store-to c = let k = ends c in let l = c.loop-from.invariant.long in search rules
-
-pub slice_bounds-zero_all-count : goal.slice_bounds-zero_all-count
-slice_bounds-zero_all-count c = (ends c).0
-
 pub returns : goal.returns
 returns c =
     λ stored H.
     let k = c in
-    closing-over k.loop-from.invariant k.loop-from-test.false c.zero_all.new.t c.zero_all.ensures stored H
+    closing-over k.loop-from.invariant k.loop-from-test.false c.zero_all.new.items c.zero_all.ensures stored H

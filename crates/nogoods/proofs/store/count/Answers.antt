@@ -8,8 +8,7 @@ use lib.ListN.{length}
 use Rattle.nogoods.specs.Store.{Stored, live}
 use Rattle.nogoods.specs.Records.{dead_at, end_at, stored_at}
 use Rattle.nogoods.proofs.Live.{live-nil, live-cons, live-past, by_answer}
-use Rattle.nogoods.proofs.Recorded.{rest-next, rest_over, ahead, ahead-room}
-use borrow.Author.Rules.{rules}
+use Rattle.nogoods.proofs.Recorded.{rest-next, rest_over, ahead-room}
 use Rattle.nogoods.proofs.store.count.Goals as goal
 use Rattle.nogoods.proofs.store.count.Goals.{In-loop-i, After-live_at-n}
 
@@ -26,9 +25,6 @@ few : (b : Bool) → cond b 0 1 ≤ 1
 few true = omega arith
 few false = omega arith
 
-pub loop-i-init : goal.loop-i-init
-loop-i-init c = (omega arith, ahead (λ stored. omega arith))
-
 pub live_at-n-requires : goal.live_at-n-requires
 live_at-n-requires c = room c
 
@@ -40,14 +36,8 @@ module _ (c : After-live_at-n) where
   one : (c.live_at-n.result ≡ cond dead 0 1) × (c.live_at-n.result ≤ 1)
   one = (c.live_at-n.ensures, omega (arith, c.live_at-n.ensures, few dead))
 
-pub overflow_add-n : goal.overflow_add-n
-overflow_add-n c = let k = room (goal.at.overflow_add-n c).In-loop-i in let o = one c in let v = c.loop-i.invariant.0 in search rules
-
 pub end_at-i-requires : goal.end_at-i-requires
 end_at-i-requires c = room (goal.at.end_at-i-requires c).In-loop-i
-
-pub loop-i-smaller : goal.loop-i-smaller
-loop-i-smaller c = omega (arith, c.loop-i-test.true, c.end_at-i.ensures)
 
 pub loop-i-preserved : goal.loop-i-preserved
 loop-i-preserved c =

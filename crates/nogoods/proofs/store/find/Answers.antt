@@ -9,13 +9,13 @@ use lib.ListN.{length}
 use Rattle.nogoods.specs.Store.{Stored, is_target, record_size}
 use Rattle.nogoods.specs.Records.{end_at, stored_at}
 use Rattle.nogoods.specs.Finds.{found_at}
-use Rattle.nogoods.specs.declared.store.Found.TheVariants.{At}
+use Rattle.std.specs.declared.option.Option.TheVariants.{Some}
 use Rattle.nogoods.proofs.Recorded.{rest_at, rest-first, rest-next, rest_over}
 use Rattle.nogoods.proofs.Indexing.{skipped}
 use Rattle.nogoods.proofs.store.find.Goals as goal
 use Rattle.nogoods.proofs.store.find.Goals.{In-loop-i, After-is_target}
 
-found_here : (i : ℕ) (L : List ℤ) (e : Stored) (es : List Stored) → is_target L e ≡ true → found_at i L (e ∷ es) ≡ At i
+found_here : (i : ℕ) (L : List ℤ) (e : Stored) (es : List Stored) → is_target L e ≡ true → found_at i L (e ∷ es) ≡ Some i
 found_here i L e es h = rw h
 
 found-on : (i : ℕ) (L : List ℤ) (e : Stored) (es : List Stored) → is_target L e ≡ false
@@ -56,9 +56,6 @@ returns-then-is_target c =
 
 pub end_at-i-requires : goal.end_at-i-requires
 end_at-i-requires c = room (i (goal.at.end_at-i-requires c).After-is_target)
-
-pub loop-i-smaller : goal.loop-i-smaller
-loop-i-smaller c = omega (arith, (i (goal.at.loop-i-smaller c).After-is_target).loop-i-test.true, c.end_at-i.ensures)
 
 pub loop-i-preserved : goal.loop-i-preserved
 loop-i-preserved c =

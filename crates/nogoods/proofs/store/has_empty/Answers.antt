@@ -14,7 +14,7 @@ use Rattle.nogoods.specs.Store.{Stored, live}
 use Rattle.nogoods.specs.Keeps.{Holds}
 use Rattle.nogoods.specs.Records.{end_at, stored_at}
 use Rattle.nogoods.proofs.Live.{live-nil, live-cons, live-past, by_answer}
-use Rattle.nogoods.proofs.Recorded.{rest_at, rest-first, rest-next, rest_over, ahead, ahead-room}
+use Rattle.nogoods.proofs.Recorded.{rest_at, rest-first, rest-next, rest_over, ahead-room}
 use Rattle.nogoods.proofs.store.has_empty.Goals as goal
 use Rattle.nogoods.proofs.store.has_empty.Goals.{In-loop-i, After-is_empty_at}
 
@@ -49,9 +49,6 @@ room c = ahead-room c.loop-i.invariant c.loop-i-test.true c.requires
 abbrev it : In-loop-i → Stored
 it c = stored_at c.args.store.now c.loop-i.i
 
-pub loop-i-init : goal.loop-i-init
-loop-i-init c = ahead (λ stored. refl)
-
 pub is_empty_at-requires : goal.is_empty_at-requires
 is_empty_at-requires c = room c
 
@@ -74,9 +71,6 @@ returns-then-is_empty_at c =
 
 pub end_at-i-requires : goal.end_at-i-requires
 end_at-i-requires c = room (goal.at.end_at-i-requires c).In-loop-i
-
-pub loop-i-smaller : goal.loop-i-smaller
-loop-i-smaller c = omega (arith, c.loop-i-test.true, c.end_at-i.ensures)
 
 pub loop-i-preserved : goal.loop-i-preserved
 loop-i-preserved c =

@@ -1,12 +1,9 @@
 -- All is kept; or the index is blank, the search has its own cells, and the store is closed up.
 use Rattle.nogoods.specs.Index.{BlankIndex}
-use Rattle.nogoods.proofs.Stored.{kept-all, kept-live}
+use Rattle.nogoods.proofs.Stored.{kept-live}
 use Rattle.nogoods.proofs.Indexing.{keeps-blank, keeps-part}
 use native.Mathlib.Omega.{arith}
 use Rattle.nogoods.proofs.store.make_room.Goals as goal
-
-pub returns-then-size-store : goal.returns-then-size-store
-returns-then-size-store c = λ stored K. rw (kept-all K.holds c.args.size (omega (arith, c.if-size-store.true))) K
 
 pub returns : goal.returns
 returns c stored K =

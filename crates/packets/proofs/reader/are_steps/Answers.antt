@@ -2,7 +2,7 @@
 -- Assumes nothing.
 use mathlib.Core.Path.{◌≡◌, refl, sym, ◌∙◌}
 use mathlib.Core.List.{List}
-use Prim.Native.Nat.{ℕ, ◌≤◌}
+use Prim.Native.Nat.{ℕ, ◌+◌, ◌-◌, ◌≤◌}
 use native.Mathlib.Omega.{arith}
 use lib.ListN.{length, drop, length-drop}
 use lib.Seq.{drop-drop}
@@ -12,8 +12,8 @@ use Rattle.packets.proofs.Decoded.{fills-none, fills-on, fills-end}
 use Rattle.packets.proofs.reader.are_steps.Goals as goal
 use Rattle.packets.proofs.reader.are_steps.Goals.{After-step_size-size}
 
-pub loop-left-init : goal.loop-left-init
-loop-left-init c = (omega arith, refl)
+pub loop-init : goal.loop-init
+loop-init c = let e : c.args.count - 0 ≡ c.args.count = omega arith in (omega arith, rw e refl)
 
 -- the bytes from there on, and the size of the step there
 module _ (c : After-step_size-size) where
@@ -21,7 +21,7 @@ module _ (c : After-step_size-size) where
   bs = c.args.bytes.now
 
   abbrev at : ℕ
-  at = c.loop-left.at
+  at = c.loop.at
 
   size : (c.step_size-size.result ≡ step_size (drop at bs)) × (c.step_size-size.result ≤ length (drop at bs))
   size = rw (tail_of at bs) at c.step_size-size.ensures
@@ -29,22 +29,20 @@ module _ (c : After-step_size-size) where
 pub returns-then-size-eq0 : goal.returns-then-size-eq0
 returns-then-size-eq0 c =
     let d = (goal.at.returns-then-size-eq0 c).After-step_size-size in
-    let l = d.loop-left in
-    sym (l.invariant.1 ∙ fills-none l.left (drop (at d) (bs d)) d.loop-left-test.true (sym (size d).0 ∙ c.if-size-eq0.true))
+    let l = d.loop in
+    sym (l.invariant.1 ∙ fills-none (c.args.count - l.counter) (drop (at d) (bs d)) (omega (arith, d.loop-test.true)) (sym (size d).0 ∙ c.if-size-eq0.true))
 
 pub overflow_add-at : goal.overflow_add-at
-overflow_add-at c = let d = (goal.at.overflow_add-at c).After-step_size-size in record { fits = omega (arith, (size d).1, length-drop (at d) (bs d), d.loop-left.invariant.0) }
+overflow_add-at c = let d = (goal.at.overflow_add-at c).After-step_size-size in record { fits = omega (arith, (size d).1, length-drop (at d) (bs d), d.loop.invariant.0) }
 
-pub loop-left-smaller : goal.loop-left-smaller
-loop-left-smaller c = omega (arith, c.loop-left-test.true)
-
-pub loop-left-preserved : goal.loop-left-preserved
-loop-left-preserved c =
-    let d = (goal.at.loop-left-preserved c).After-step_size-size in
-    let l = d.loop-left in
-    (omega (arith, (size d).1, length-drop (at d) (bs d), l.invariant.0), l.invariant.1 ∙ fills-on l.left (drop (at d) (bs d)) d.loop-left-test.true (λ e. c.if-size-eq0.false ((size d).0 ∙ e)) ∙ rw (← (size d).0, drop-drop d.step_size-size.result (at d) (bs d)))
+pub loop-preserved : goal.loop-preserved
+loop-preserved c =
+    let d = (goal.at.loop-preserved c).After-step_size-size in
+    let l = d.loop in
+    let less : c.args.count - l.counter - 1 ≡ c.args.count - (l.counter + 1) = omega arith in
+    (omega (arith, (size d).1, length-drop (at d) (bs d), l.invariant.0), l.invariant.1 ∙ fills-on (c.args.count - l.counter) (drop (at d) (bs d)) (omega (arith, d.loop-test.true)) (λ e. c.if-size-eq0.false ((size d).0 ∙ e)) ∙ rw (← (size d).0, drop-drop d.step_size-size.result (at d) (bs d), less))
 
 pub returns : goal.returns
 returns c =
-    let l = c.loop-left in
-    fills-end l.left l.at c.args.bytes.now c.loop-left-test.false l.invariant.0 ∙ sym l.invariant.1
+    let l = c.loop in
+    fills-end (c.args.count - l.counter) l.at c.args.bytes.now (omega (arith, c.loop-test.false)) l.invariant.0 ∙ sym l.invariant.1

@@ -3,14 +3,15 @@
 use mathlib.Core.Path.{◌≡◌, refl, sym, ◌∙◌, ap}
 use mathlib.Core.Option.{none}
 use native.Mathlib.Omega.{arith}
+use Rattle.text.specs.declared.Letter.{Letter}
+use Rattle.text.specs.declared.Class.{Class}
+use Rattle.text.specs.declared.Class.TheVariants.{Newline, Space, Minus, Digit, Step, Other}
 use lib.ListN.{length-drop}
 use borrow.Author.Rules.{rules}
 use Rattle.words.proofs.Parts.{tail_of}
 use Rattle.packets.specs.Packets.{letter_in}
-use Rattle.packets.specs.Parts.{step_at}
 use Rattle.packets.proofs.Decoded.{size-bytes, step-letter, no-letter}
 use Rattle.packets.proofs.reader.read_step.Goals as goal
-use Rattle.packets.proofs.reader.read_step.Goals.{After-class_of-class}
 
 pub bounds-bytes-1 : goal.bounds-bytes-1
 bounds-bytes-1 c = let a = c in omega (arith, (size-bytes a.args.bytes.now a.requires.bytes_nonzero.0).0)
@@ -31,31 +32,22 @@ step_with-requires c =
     let s = size-bytes bs a.requires.bytes_nonzero.0 in
     rw (tail_of 2 bs) (omega (arith, s.1, length-drop 2 bs, c.wide_byte-count.ensures), a.requires.bytes_nonzero.1)
 
-pub returns-in-Step : goal.returns-in-Step
-returns-in-Step c =
-    let a = c in
-    let bs = a.args.bytes.now in
-    let s = (size-bytes bs a.requires.bytes_nonzero.0).0 in
-    rw (step-letter bs s c.in-Step.letter (sym c.class_of-class.ensures ∙ c.in-Step.is)) (rw (tail_of 2 bs, c.wide_byte-count.ensures) at c.step_with.ensures)
+no-step : (k : Class) → ((x : Letter) → k ≡ Step x → ⊥) → letter_in k ≡ none
+no-step Newline f = refl
+no-step Space f = refl
+no-step Minus f = refl
+no-step (Digit d) f = refl
+no-step (Step x) f = absurd (f x refl)
+no-step Other f = refl
 
--- the first byte is no letter
-module _ (c : After-class_of-class) where
-  nothing : letter_in c.class_of-class.result ≡ none → step_at c.args.bytes.now ≡ none
-  nothing e =
-      let a = c in
-      no-letter a.args.bytes.now (size-bytes a.args.bytes.now a.requires.bytes_nonzero.0).0 (ap letter_in (sym c.class_of-class.ensures) ∙ e)
+pub returns-in_default : goal.returns-in_default
+returns-in_default c =
+    let k = c.class_of in
+    let s = (size-bytes c.args.bytes.now c.requires.bytes_nonzero.0).0 in
+    rw (no-letter c.args.bytes.now s (ap letter_in (sym k.ensures) ∙ no-step k.result c.in_default.not-Step)) refl
 
-pub returns-in-Newline : goal.returns-in-Newline
-returns-in-Newline c = rw (nothing (goal.at.returns-in-Newline c).After-class_of-class (ap letter_in c.in-Newline.is)) refl
-
-pub returns-in-Space : goal.returns-in-Space
-returns-in-Space c = rw (nothing (goal.at.returns-in-Space c).After-class_of-class (ap letter_in c.in-Space.is)) refl
-
-pub returns-in-Minus : goal.returns-in-Minus
-returns-in-Minus c = rw (nothing (goal.at.returns-in-Minus c).After-class_of-class (ap letter_in c.in-Minus.is)) refl
-
-pub returns-in-Digit : goal.returns-in-Digit
-returns-in-Digit c = rw (nothing (goal.at.returns-in-Digit c).After-class_of-class (ap letter_in c.in-Digit.is)) refl
-
-pub returns-in-Other : goal.returns-in-Other
-returns-in-Other c = rw (nothing (goal.at.returns-in-Other c).After-class_of-class (ap letter_in c.in-Other.is)) refl
+pub returns : goal.returns
+returns c =
+    let bs = c.args.bytes.now in
+    let s = (size-bytes bs c.requires.bytes_nonzero.0).0 in
+    rw (step-letter bs s c.in-Step.letter (sym c.class_of.ensures ∙ c.in-Step.is)) (rw (tail_of 2 bs, c.wide_byte-count.ensures) at c.step_with.ensures)

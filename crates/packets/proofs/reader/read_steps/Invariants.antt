@@ -1,8 +1,6 @@
+use Prim.Native.Nat.{◌-◌}
 use Rattle.packets.proofs.Decoded.{Going}
 use Rattle.packets.proofs.reader.read_steps.Given as goal
 
-abbrev pub invariant-loop-left : goal.invariant-loop-left
-invariant-loop-left l = Going l.bytes l.count l.initial.proof l.proof l.left l.i l.end l.top
-
-abbrev pub decreases-loop-left : goal.decreases-loop-left
-decreases-loop-left l = l.left
+abbrev pub invariant-loop : goal.invariant-loop
+invariant-loop l = Going l.bytes l.count l.initial.proof l.proof (l.count - l.counter) l.i l.end l.top

@@ -1,78 +1,55 @@
--- `packets::writer::put_rules` meets its contract. After a turn the rules before word i are put.
+-- `packets::writer::put_rules` meets its contract. After a turn the rules before those that are left are put.
 -- Assumes nothing.
-use mathlib.Core.Path.{◌≡◌}
+use mathlib.Core.Path.{◌≡◌, ap}
 use mathlib.Core.Bool.{true}
-use mathlib.Core.List.{List, ◌∷◌}
-use Prim.Native.Nat.{ℕ, ◌+◌, ◌-◌}
+use mathlib.Core.List.{◌∷◌, map}
 use native.Mathlib.Omega.{arith}
-use lib.IntN.{ℤ}
-use lib.ListN.{drop}
+use lib.ListN.{length}
 use Rattle.words.specs.Lists.{all}
 use Rattle.words.proofs.Lists.{and_left, and_right}
-use Rattle.words.proofs.Parts.{tail_of}
 use Rattle.text.specs.Writing.{Put}
-use Rattle.aspif.specs.Tables.{size_at, rule_at, rules_at}
-use Rattle.aspif.proofs.Cursors.{AtRule, at-rule, no-rules}
+use Rattle.aspif.specs.Tables.{rule_at, rules_at, starts_at}
+use Rattle.aspif.proofs.Cursors.{rules_from_starts, starts-length}
 use Rattle.packets.specs.Bytes.{bytes_of}
 use Rattle.packets.specs.Packets.{has_words, packet_words}
-use Rattle.packets.specs.declared.Version.{Version}
 use Rattle.packets.proofs.Writes.{going_start, going_end, rule-on}
-use borrow.Author.Rules.{rules}
 use Rattle.packets.proofs.writer.put_rules.Goals as goal
-use Rattle.packets.proofs.writer.put_rules.Goals.{In-loop-left, After-loop-left}
+use Rattle.packets.proofs.writer.put_rules.Goals.{In-Some, In-None}
 
--- the words from i on, and the rule there
-module _ (c : In-loop-left) where
-  abbrev t : List ℤ
-  t = c.args.table.now
+pub loop-rule-init : goal.loop-rule-init
+loop-rule-init c =
+    let n = starts-length c.args.rules c.args.table.now in
+    rw (c.into_iter-rule-iterator.ensures.into_iter_gives, c.rules_in-rule-items.ensures.start.0, c.rules_in-rule-items.ensures.start.1, ← rules_from_starts c.args.rules c.args.table.now)
+    (c.requires.table_value.1, going_start _ _ _, omega (arith, n))
 
-  abbrev i : ℕ
-  i = c.loop-left.i
-
-  at : AtRule t c.loop-left.left i
-  at = at-rule c.loop-left-test.true c.loop-left.invariant.0.0
-
-  abbrev v : Version
-  v = c.args.version
-
-  -- it and those after it have words
-  worded : all (has_words v) (rule_at (drop i t) ∷ rules_at (c.loop-left.left - 1) (drop (i + size_at (drop i t)) t)) ≡ true
-  worded = rw at.rules at c.loop-left.invariant.0.1
-
-pub loop-left-init : goal.loop-left-init
-loop-left-init c = ((record { within = omega arith; sound = c.requires.table_value.0 }, c.requires.table_value.1), (going_start _ _ _, omega arith))
-
-pub offset_bounds-table-i : goal.offset_bounds-table-i
-offset_bounds-table-i c = let w = c.loop-left.invariant.0.0.within in search rules
+-- the rule at hand and those after it have words
+worded : (c : In-Some)
+    → (let after = c.next.new.self in
+    all (has_words c.args.version) (rule_at c.in-Some.rule.words.now ∷ map rule_at (starts_at after.left after.words.now)) ≡ true)
+worded c = rw c.in-Some.ensures.steps at c.loop-rule.invariant.0
 
 pub put_rule-end-requires : goal.put_rule-end-requires
 put_rule-end-requires c =
-    let d = (goal.at.put_rule-end-requires c).In-loop-left in
-    let p = d.requires in
-    (rw (tail_of (i d) (t d)) (at d).sound, (rw (tail_of (i d) (t d)) (and_left (has_words (v d) (rule_at (drop (i d) (t d)))) _ (worded d)), omega (arith, d.loop-left.invariant.1.1, d.loop-left-test.true, p.rules_le_most_rules.0, p.rules_le_most_rules.1)))
+    let p = c.requires.rules_le_most_rules in
+    let w = worded (goal.at.put_rule-end-requires c).In-Some in
+    (c.in-Some.rule.sound, (and_left (has_words c.args.version (rule_at c.in-Some.rule.words.now)) _ w, omega (arith, c.loop-rule.invariant.2, ap length c.in-Some.ensures.steps, p.0, p.1)))
 
-pub next_rule-i-requires : goal.next_rule-i-requires
-next_rule-i-requires c = record { here = (at (goal.at.next_rule-i-requires c).In-loop-left).here }
-
-pub loop-left-smaller : goal.loop-left-smaller
-loop-left-smaller c = omega (arith, c.loop-left-test.true)
-
-pub loop-left-preserved : goal.loop-left-preserved
-loop-left-preserved c =
-    let d = (goal.at.loop-left-preserved c).In-loop-left in
-    let l = d.loop-left in
-    let p = rw (tail_of (i d) (t d)) at c.put_rule-end.ensures in
-    rw c.next_rule-i.ensures.next.0
-    (((at d).next, and_right (has_words (v d) (rule_at (drop (i d) (t d)))) _ (worded d)), (rule-on (v d) (rule_at (drop (i d) (t d))) _ _ (at d).rules l.invariant.1.0 p.put, omega (arith, p.upper_bound, l.invariant.1.1, d.loop-left-test.true)))
+pub loop-rule-preserved : goal.loop-rule-preserved
+loop-rule-preserved c =
+    let l = c.loop-rule in
+    let r = rule_at c.in-Some.rule.words.now in
+    let e = c.in-Some.ensures.steps in
+    let p = c.put_rule-end.ensures in (
+      and_right (has_words c.args.version r) _ (worded (goal.at.loop-rule-preserved c).In-Some),
+      rule-on c.args.version r _ _ (ap (map rule_at) e) l.invariant.1 p.put,
+      omega (arith, p.upper_bound, l.invariant.2, ap length e),
+    )
 
 -- all of them are put
-all-put : (c : After-loop-left) → (let a = c.args in let l = c.loop-left in
+all-put : (c : In-None) → (let a = c.args in let l = c.loop-rule in
     Put (bytes_of 4 (packet_words a.version (rules_at a.rules a.table.now))) a.buffer.now l.buffer a.at l.end)
 unfolding bytes_of
-all-put c =
-    let a = c.args in
-    let l = c.loop-left in
-    going_end (rw (no-rules l.left (drop l.i a.table.now) c.loop-left-test.false) at l.invariant.1.0)
+all-put c = going_end (rw c.in-None.ensures.steps.0 at c.loop-rule.invariant.1)
 
 pub returns : goal.returns
-returns c = let p = c.requires in record { put = all-put c; upper_bound = omega (arith, c.loop-left.invariant.1.1, p.rules_le_most_rules.0, p.rules_le_most_rules.1) }
+returns c = let p = c.requires in record { put = all-put (goal.at.returns c).In-None; upper_bound = omega (arith, c.loop-rule.invariant.2, p.rules_le_most_rules.0, p.rules_le_most_rules.1) }

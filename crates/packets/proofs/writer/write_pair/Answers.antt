@@ -90,4 +90,4 @@ pub returns-in-Refused : goal.returns-in-Refused
 returns-in-Refused c =
     let d = (goal.at.returns-in-Refused c).After-answer_of-answer in
     let z : ℕ → List ℕ = λ n. replicate n 0 in
-    zeros-left (good d) (fits d) (whole d) (packet d) _ (comes-to d) (told d) _ c.in-Refused.is (c.zero_bytes.ensures ∙ ap z (same d))
+    zeros-left (good d) (fits d) (whole d) (packet d) _ (comes-to d) (told d) _ c.in-Refused.is (c.zero_all.ensures ∙ ap z (same d))

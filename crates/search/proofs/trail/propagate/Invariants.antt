@@ -1,11 +1,9 @@
-use mathlib.Core.Path.{◌≡◌}
 use Prim.Native.Nat.{◌-◌, ◌≤◌}
-use lib.ListN.{length}
 use Rattle.words.specs.Limits.{entries}
 use Rattle.search.proofs.trail.propagate.Given as goal
 
 abbrev pub invariant-loop-done : goal.invariant-loop-done
-invariant-loop-done l = (l.n ≤ entries) × (length l.cells ≡ length l.initial.cells)
+invariant-loop-done l = l.n ≤ entries
 
 abbrev pub decreases-loop-done : goal.decreases-loop-done
 decreases-loop-done l = entries - l.done

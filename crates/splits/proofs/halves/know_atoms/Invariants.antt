@@ -4,6 +4,3 @@ use Rattle.splits.proofs.halves.know_atoms.Given as goal
 
 abbrev pub invariant-loop-left : goal.invariant-loop-left
 invariant-loop-left l = MarkedSoFar l.known (up_to l.left) (up_to l.atoms)
-
-abbrev pub decreases-loop-left : goal.decreases-loop-left
-decreases-loop-left l = l.left

@@ -1,6 +1,6 @@
 -- `text::writing::put_bytes` meets its contract. After i turns the first i bytes are put.
 -- Assumes nothing.
-use mathlib.Core.Path.{◌≡◌, ◌∙◌}
+use mathlib.Core.Path.{◌≡◌, refl, ◌∙◌}
 use native.Mathlib.Omega.{arith}
 use lib.ListN.{length}
 use lib.Seq.{take-length}
@@ -9,17 +9,12 @@ use Rattle.text.proofs.writing.put_bytes.Goals as goal
 
 pub loop-i-preserved : goal.loop-i-preserved
 loop-i-preserved c =
-    let b = c in
-    let a = b.args in
-    let l = b.loop-i in
-    (omega arith, c.put.ensures ∙ rw l.invariant.1 (sets_more a.bytes.now a.buffer.now a.at l.i (omega arith)))
+    let a = c.args in
+    let l = c.loop-i in
+    c.put.ensures ∙ rw l.invariant (sets_more a.bytes.now a.buffer.now a.at l.i (omega arith))
 
 pub returns : goal.returns
 returns c =
-    let a = c.args in
     let l = c.loop-i in
-    let e : l.i ≡ length a.bytes.now = omega arith in
-    record {
-      stands = l.invariant.1 ∙ rw (e, take-length);
-      ends = rw e;
-    }
+    let e : l.i ≡ length c.args.bytes.now = omega arith in
+    record { stands = l.invariant ∙ rw (e, take-length); ends = refl }

@@ -5,13 +5,6 @@ use mir.Facts.{to_z-of_z}
 use Rattle.text.proofs.Puts.{put_on, signed-bytes, sign-short, size-short}
 use Rattle.text.proofs.writing.put_number.Goals as goal
 
-pub put_digits-requires : goal.put_digits-requires
-put_digits-requires c =
-    let a = c in
-    let sign = simp (to_z-of_z a.ranges.number) at c.put_sign-from.ensures in
-    let space = c.put_bytes-sign.ensures in
-    omega (arith, sign.ends, space.ends, sign-short a.args.number, a.requires)
-
 pub returns : goal.returns
 returns c = let a = c in
     let size = simp (to_z-of_z a.ranges.number) at c.variable_of.ensures in

@@ -4,6 +4,3 @@ use Rattle.totalizer.proofs.levels.add_pairs.Given as goal
 
 abbrev pub invariant-loop-left : goal.invariant-loop-left
 invariant-loop-left l = Adding l.pairs l.bound (take l.n l.initial.sums) l.initial.sums l.initial.spare l.sums l.spare l.left l.count
-
-abbrev pub decreases-loop-left : goal.decreases-loop-left
-decreases-loop-left l = l.left

@@ -1,11 +1,6 @@
-use Prim.Native.Nat.{◌-◌}
-use lib.ListN.{length}
 use Rattle.sums.specs.Levels.{is_useful}
 use Rattle.totalizer.proofs.Below.{Keeping}
 use Rattle.totalizer.proofs.levels.useful_levels.Given as goal
 
 abbrev pub invariant-loop-i : goal.invariant-loop-i
 invariant-loop-i l = Keeping (is_useful l.bound l.outside l.inside) l.inside l.initial.levels l.levels l.i l.k
-
-abbrev pub decreases-loop-i : goal.decreases-loop-i
-decreases-loop-i l = length l.inside - l.i

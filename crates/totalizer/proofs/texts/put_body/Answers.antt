@@ -2,6 +2,7 @@ use mathlib.Core.Path.{ap}
 use native.Mathlib.Omega.{arith}
 use lib.IntN.{pos}
 use lib.ListN.{length, get_or}
+use Rattle.std.proofs.Common.{rules}
 use Rattle.words.proofs.Words.{back}
 use Rattle.text.proofs.Puts.{put_on}
 use Rattle.totalizer.proofs.RuleTexts.{sized, spaced-body}
@@ -32,8 +33,8 @@ put_bytes-requires c =
 pub returns : goal.returns
 returns c = let s = c in
     let ws = s.args.words.now in
-    let kind = rw (back (get_or ws 2 (pos 0)) c.put_number-arg-2-1.given) at c.put_number-kind.ensures in
+    let kind = rw (back (get_or ws 2 (pos 0)) (search rules)) at c.put_number-kind.ensures in
     let bound = c.put_bound-bound.ensures in
-    let count = rw (back (get_or ws 3 (pos 0)) c.put_number-arg-4-1.given) at c.put_number-count.ensures in
+    let count = rw (back (get_or ws 3 (pos 0)) (search rules)) at c.put_number-count.ensures in
     let body = rw c.body_of.ensures at c.put_numbers-end.ensures in
     let last = c.put_bytes.ensures in record { written = rw (spaced-body ws) (put_on kind.written (put_on bound.written (put_on count.written (put_on body.written last)))); within = omega (arith, kind.within, bound.within, count.within, body.within, last.ends, (sized ws s.requires.rule).body) }

@@ -19,16 +19,15 @@ use Rattle.merging.specs.Claims.{demanding_as_written}
 use Rattle.splits.specs.Halves.{demand_words}
 use Rattle.shapes.specs.Tree.{Shape}
 use Rattle.trees.specs.Service.{Side}
-use Rattle.trees.specs.Sides.{Standing, place_below, Subtree, Takes, pending, joined_sides, side_of, Merged}
+use Rattle.trees.specs.Sides.{Standing, place_below, Subtree, Takes, pending, joined_sides, side_of, Merged, Sided}
 use Rattle.trees.specs.declared.sides.Place.{Place}
 use Rattle.trees.specs.declared.sides.Pending.{Pending}
-use Rattle.trees.specs.declared.sides.Sided.{Sided}
-use Rattle.trees.specs.declared.sides.Sided.TheVariants.{Text}
 use Rattle.trees.proofs.Constraints.{same-front, standing-same, standing-less, small-atom, same-program, wide-size, standing-below}
 use Rattle.trees.proofs.Subtrees.{Halved, some_number, tree-split, some-length, split-leaves, side-first, side-second}
-use Rattle.trees.proofs.Outcomes.{end-merged, first-refused, first-took, sides-joinable, sides-joined, Tells, tells_as, subtree-as}
+use Rattle.trees.proofs.Outcomes.{end-merged, first-refused, handed-up, first-took, sides-joinable, sides-joined, Tells, tells_as, subtree-as}
 use Rattle.trees.proofs.sides.+merge_side.Goals as goal
 use Rattle.trees.proofs.sides.+merge_side.Goals.{After-wide-v, After-demand_atom, After-merge_side}
+use Rattle.std.specs.Prelude.{Ok}
 
 -- a split
 module _ (t : ℕ) (c : After-wide-v t) where
@@ -151,7 +150,7 @@ module _ (t : ℕ) (c : After-merge_side t) where
       told₁ (demanding_as_written ws (pos v)) (standing-below S (pos v) is-atom is-deep refl c.demand_atom.ensures) _ _ (side-first T (halves T))
 
   -- it is a text
-  module _ (p : Pending) (is : one ≡ Text p) where
+  module _ (p : Pending) (is : one ≡ Ok p) where
     took₁ : {ws : List InputRule} → Stands ws → {u : Shape} {rest : List ℕ} (T : Begins u rest)
         → (p.size ≤ longest) × Takes (halves T).left (halves T).between (drop 1 numbers) texts lengths p
     took₁ {ws} S T = first-took size place.limit ws T (halves T) (merged₁ S T) p is
@@ -255,41 +254,41 @@ forbid_atom-requires t c =
 pub overflow_add-numbers : goal.overflow_add-numbers
 overflow_add-numbers t c =
     let f = (goal.at.overflow_add-numbers t c).After-merge_side in
-    record { fits = omega (arith, (counted t f).0, numbers-taken t f c.in-Text.one c.in-Text.is) }
+    record { fits = omega (arith, (counted t f).0, numbers-taken t f c.in_ok-one.one c.in_ok-one.was) }
 
 pub offset_bounds-tree-numbers : goal.offset_bounds-tree-numbers
 offset_bounds-tree-numbers t c =
     let f = (goal.at.offset_bounds-tree-numbers t c).After-merge_side in
-    record { fits = omega (arith, (bytes_counted t f).0, numbers-taken t f c.in-Text.one c.in-Text.is) }
+    record { fits = omega (arith, (bytes_counted t f).0, numbers-taken t f c.in_ok-one.one c.in_ok-one.was) }
 
-pub slice_bounds-merge_side-count-in-Text : goal.slice_bounds-merge_side-count-in-Text
-slice_bounds-merge_side-count-in-Text t c = numbers-taken t (goal.at.slice_bounds-merge_side-count-in-Text t c).After-merge_side c.in-Text.one c.in-Text.is
+pub slice_bounds-merge_side-count-2 : goal.slice_bounds-merge_side-count-2
+slice_bounds-merge_side-count-2 t c = numbers-taken t (goal.at.slice_bounds-merge_side-count-2 t c).After-merge_side c.in_ok-one.one c.in_ok-one.was
 
-pub slice_bounds-merge_side-start-in-Text : goal.slice_bounds-merge_side-start-in-Text
-slice_bounds-merge_side-start-in-Text t c = numbers-taken t (goal.at.slice_bounds-merge_side-start-in-Text t c).After-merge_side c.in-Text.one c.in-Text.is
+pub slice_bounds-merge_side-start-2 : goal.slice_bounds-merge_side-start-2
+slice_bounds-merge_side-start-2 t c = numbers-taken t (goal.at.slice_bounds-merge_side-start-2 t c).After-merge_side c.in_ok-one.one c.in_ok-one.was
 
-pub slice_bounds-merge_side-count-in-Text-2 : goal.slice_bounds-merge_side-count-in-Text-2
-slice_bounds-merge_side-count-in-Text-2 t c = bytes-taken t (goal.at.slice_bounds-merge_side-count-in-Text-2 t c).After-merge_side c.in-Text.one c.in-Text.is
+pub slice_bounds-merge_side-count-3 : goal.slice_bounds-merge_side-count-3
+slice_bounds-merge_side-count-3 t c = bytes-taken t (goal.at.slice_bounds-merge_side-count-3 t c).After-merge_side c.in_ok-one.one c.in_ok-one.was
 
-pub slice_bounds-merge_side-start-in-Text-2 : goal.slice_bounds-merge_side-start-in-Text-2
-slice_bounds-merge_side-start-in-Text-2 t c = bytes-taken t (goal.at.slice_bounds-merge_side-start-in-Text-2 t c).After-merge_side c.in-Text.one c.in-Text.is
+pub slice_bounds-merge_side-start-3 : goal.slice_bounds-merge_side-start-3
+slice_bounds-merge_side-start-3 t c = bytes-taken t (goal.at.slice_bounds-merge_side-start-3 t c).After-merge_side c.in_ok-one.one c.in_ok-one.was
 
 pub offset_bounds-lengths-ends : goal.offset_bounds-lengths-ends
 offset_bounds-lengths-ends t c =
     let f = (goal.at.offset_bounds-lengths-ends t c).After-merge_side in
-    record { fits = omega (arith, (bytes_counted t f).1, ends-taken t f c.in-Text.one c.in-Text.is) }
+    record { fits = omega (arith, (bytes_counted t f).1, ends-taken t f c.in_ok-one.one c.in_ok-one.was) }
 
-pub slice_bounds-merge_side-count-in-Text-3 : goal.slice_bounds-merge_side-count-in-Text-3
-slice_bounds-merge_side-count-in-Text-3 t c = ends-taken t (goal.at.slice_bounds-merge_side-count-in-Text-3 t c).After-merge_side c.in-Text.one c.in-Text.is
+pub slice_bounds-merge_side-count-4 : goal.slice_bounds-merge_side-count-4
+slice_bounds-merge_side-count-4 t c = ends-taken t (goal.at.slice_bounds-merge_side-count-4 t c).After-merge_side c.in_ok-one.one c.in_ok-one.was
 
-pub slice_bounds-merge_side-start-in-Text-3 : goal.slice_bounds-merge_side-start-in-Text-3
-slice_bounds-merge_side-start-in-Text-3 t c = ends-taken t (goal.at.slice_bounds-merge_side-start-in-Text-3 t c).After-merge_side c.in-Text.one c.in-Text.is
+pub slice_bounds-merge_side-start-4 : goal.slice_bounds-merge_side-start-4
+slice_bounds-merge_side-start-4 t c = ends-taken t (goal.at.slice_bounds-merge_side-start-4 t c).After-merge_side c.in_ok-one.one c.in_ok-one.was
 
 pub merge_side-other-requires : goal.merge_side-other-requires
 merge_side-other-requires t c =
     let f = (goal.at.merge_side-other-requires t c).After-merge_side in
-    let p = c.in-Text.one in
-    let is = c.in-Text.is in
+    let p = c.in_ok-one.one in
+    let is = c.in_ok-one.was in
     let H = halves t f (subtree t f) in
     let x = sym c.below-next.ensures in
     let ws = demanding_as_written f.requires.place.0 (neg_ℤ (pos (v t f))) in (
@@ -313,7 +312,7 @@ join_sides-requires-clause-place t c =
     let f = (goal.at.join_sides-requires-clause-place t c).After-merge_side in
     let m = c.merge_side-other in (
       f.requires.place.0,
-      standing₄ t f c.in-Text.one c.in-Text.is c.forbid_atom.new.table c.forbid_atom.ensures m.new.table m.ensures.program m.auto.table (standing t f),
+      standing₄ t f c.in_ok-one.one c.in_ok-one.was c.forbid_atom.new.table c.forbid_atom.ensures m.new.table m.ensures.program m.auto.table (standing t f),
     )
 
 pub join_sides-requires-clause-atom : goal.join_sides-requires-clause-atom
@@ -323,36 +322,33 @@ pub join_sides-requires-clause-texts : goal.join_sides-requires-clause-texts
 join_sides-requires-clause-texts t c =
     let f = (goal.at.join_sides-requires-clause-texts t c).After-merge_side in
     let m = c.merge_side-other in
-    let p = c.in-Text.one in
-    let is = c.in-Text.is in
+    let p = c.in_ok-one.one in
+    let is = c.in_ok-one.was in
     let T = subtree t f in
     sides-joinable (size t f) (place t f).limit f.requires.place.0 T (halves t f T) (merged₁ t f (standing t f) T) p is
     (merged₂ t f p is c.forbid_atom.new.table c.forbid_atom.ensures m.new.output m.result m.ensures.side (standing t f) T)
     (long-first t f) (m.auto.output ∙ length-replicate {A = ℕ} longest 0) (counted t f).0 (counted t f).1 (counted t f).2
 
-pub returns-in-Refused-clause-program : goal.returns-in-Refused-clause-program
-returns-in-Refused-clause-program t c = same₂ t (goal.at.returns-in-Refused-clause-program t c).After-merge_side
+pub returns-in_err-one-clause-program : goal.returns-in_err-one-clause-program
+returns-in_err-one-clause-program t c = same₂ t (goal.at.returns-in_err-one-clause-program t c).After-merge_side
 
-pub returns-in-Refused-clause-side : goal.returns-in-Refused-clause-side
-returns-in-Refused-clause-side t c = λ ws S u rest T.
-    let f = (goal.at.returns-in-Refused-clause-side t c).After-merge_side in
-    record {
-      outcome = first-refused (size t f) (place t f).limit ws T (halves t f T) (merged₁ t f S T) c.in-Refused.number c.in-Refused.is;
-      took = tt;
-    }
+pub returns-in_err-one-clause-side : goal.returns-in_err-one-clause-side
+returns-in_err-one-clause-side t c = λ ws S u rest T.
+    let f = (goal.at.returns-in_err-one-clause-side t c).After-merge_side in
+    handed-up _ c.from_residual.ensures.1 (first-refused (size t f) (place t f).limit ws T (halves t f T) (merged₁ t f S T) _ c.in_err-one.was)
 
-pub returns-in-Text-clause-program : goal.returns-in-Text-clause-program
-returns-in-Text-clause-program t c =
-    let f = (goal.at.returns-in-Text-clause-program t c).After-merge_side in
+pub returns-clause-program : goal.returns-clause-program
+returns-clause-program t c =
+    let f = (goal.at.returns-clause-program t c).After-merge_side in
     let m = c.merge_side-other in
-    c.join_sides.ensures.program ∙ same₄ t f c.in-Text.one c.in-Text.is c.forbid_atom.new.table c.forbid_atom.ensures m.new.table m.ensures.program m.auto.table
+    c.join_sides.ensures.program ∙ same₄ t f c.in_ok-one.one c.in_ok-one.was c.forbid_atom.new.table c.forbid_atom.ensures m.new.table m.ensures.program m.auto.table
 
-pub returns-in-Text-clause-side : goal.returns-in-Text-clause-side
-returns-in-Text-clause-side t c = λ ws S u rest T.
-    let f = (goal.at.returns-in-Text-clause-side t c).After-merge_side in
+pub returns-clause-side : goal.returns-clause-side
+returns-clause-side t c = λ ws S u rest T.
+    let f = (goal.at.returns-clause-side t c).After-merge_side in
     let m = c.merge_side-other in
-    let p = c.in-Text.one in
-    let is = c.in-Text.is in
+    let p = c.in_ok-one.one in
+    let is = c.in_ok-one.was in
     let table₃ = c.forbid_atom.new.table in
     let put = c.forbid_atom.ensures in
     let g = c.join_sides in

@@ -35,9 +35,9 @@ is_accepted-requires c = let d = (goal.at.is_accepted-requires c).After-demand_a
 pub returns-then-not-is_accepted : goal.returns-then-not-is_accepted
 returns-then-not-is_accepted c = let d = (goal.at.returns-then-not-is_accepted c).After-demand_atom in
     let a = c.is_accepted in
-    let x = d.args in record { empty = a.ensures.empty; program = same d; number = λ ws S. sym (ap (λ (b : Bool). cond b x.two x.one) (sym (a.ensures.accepted (demanding_as_written ws (pos x.v)) (whole d S)) ∙ c.if-not-is_accepted.true)) }
+    let x = d.args in record { empty = a.ensures.empty; program = same d; fault = λ ws S. sym (ap (λ (b : Bool). cond b x.two x.one) (sym (a.ensures.accepted (demanding_as_written ws (pos x.v)) (whole d S)) ∙ c.if-not-is_accepted.true)) }
 
 pub returns : goal.returns
 returns c = let d = (goal.at.returns c).After-demand_atom in
     let a = c.is_accepted in
-    let x = d.args in record { empty = a.ensures.empty; program = same d; number = λ ws S. sym (ap (λ (b : Bool). cond b x.two x.one) (sym (a.ensures.accepted (demanding_as_written ws (pos x.v)) (whole d S)) ∙ c.if-not-is_accepted.false)) }
+    let x = d.args in record { empty = a.ensures.empty; program = same d; fault = λ ws S. sym (ap (λ (b : Bool). cond b x.two x.one) (sym (a.ensures.accepted (demanding_as_written ws (pos x.v)) (whole d S)) ∙ c.if-not-is_accepted.false)) }

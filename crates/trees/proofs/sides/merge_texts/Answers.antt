@@ -1,27 +1,24 @@
 use mathlib.Core.Path.{◌≡◌, refl, sym, ap, ◌∙◌, subst}
-use mathlib.Core.Bool.{true, cond}
+use mathlib.Core.Bool.{true}
 use mathlib.Core.List.{List}
 use Prim.Native.Nat.{ℕ, ◌-◌}
 use native.Mathlib.Omega.{arith}
 use borrow.Rule.Slice.PartMut.{put_mid}
 use lib.IntN.{ℤ, pos}
 use Rattle.words.proofs.Parts.{tail-filled}
-use lib.ListN.{length, take, replicate, length-replicate}
+use lib.ListN.{length, take, length-replicate}
 use Rattle.words.proofs.Laws.{zeros}
 use Rattle.words.specs.Limits.{longest}
 use Rattle.aspif.specs.Rules.{InputRule, program_words, atoms}
 use Rattle.derivation.specs.States.{is_atom}
 use Rattle.steps.specs.Held.{Program}
-use Rattle.runs.specs.Course.{is_accepted}
-use Rattle.merging.specs.Claims.{demanding_as_written}
-use Rattle.trees.specs.Service.{fails}
 use Rattle.trees.specs.Sides.{cleared, Standing, side_of, Adds}
 use Rattle.trees.specs.declared.sides.Pending.{Pending}
-use Rattle.trees.specs.declared.sides.Sided.TheVariants.{Text}
 use Rattle.trees.proofs.Constraints.{within, length-cleared, front-cleared, standing-same}
-use Rattle.trees.proofs.Outcomes.{over-buffer, not-halves, text-size, over-limit, text-pending}
+use Rattle.trees.proofs.Outcomes.{text-size, over-limit, text-pending}
 use Rattle.trees.proofs.sides.merge_texts.Goals as goal
 use Rattle.trees.proofs.sides.merge_texts.Goals.{After-zero_all, After-write}
+use Rattle.std.specs.Prelude.{Ok}
 
 -- the table without constraints of the sides
 module _ (c : After-zero_all) where
@@ -32,10 +29,10 @@ module _ (c : After-zero_all) where
   table = c.args.table.now
 
   abbrev now-table : List ℤ
-  now-table = put_mid used (length table - used) table c.zero_all.new.t
+  now-table = put_mid used (length table - used) table c.zero_all.new.items
 
   clear : now-table ≡ cleared used table
-  clear = tail-filled used table (pos 0) c.zero_all.new.t (within c.requires.place.1) c.zero_all.ensures
+  clear = tail-filled used table (pos 0) c.zero_all.new.items (within c.requires.place.1) c.zero_all.ensures
 
   front : take used now-table ≡ take used table
   front = ap (take used) clear ∙ front-cleared used table (within c.requires.place.1)
@@ -72,18 +69,6 @@ module _ (c : After-write) where
   same-output : length output' ≡ longest
   same-output = c.write.auto.output ∙ ap length c.requires.blank ∙ length-replicate {A = ℕ} longest 0
 
-pub returns-then-number-eq58 : goal.returns-then-number-eq58
-returns-then-number-eq58 c = let w = (goal.at.returns-then-number-eq58 c).After-write in
-    let z = (goal.at.returns-then-number-eq58 c).After-zero_all in
-    let x = z.args in record {
-      empty = w.write.ensures.empty;
-      program = front z;
-      side = λ ws S.
-          over-buffer (length x.store.now) x.place.limit ws x.v x.first.now x.second.now (output' w) x.one.refusal x.two.refusal (atom z S) (same-output w)
-          c.in-Refused.number c.in-Refused.is c.if-number-eq58.true (w.write.ensures.written ws (program z S));
-      taken = tt;
-    }
-
 pub first_refusal-requires : goal.first_refusal-requires
 first_refusal-requires c = let w = (goal.at.first_refusal-requires c).After-write in
     let z = (goal.at.first_refusal-requires c).After-zero_all in
@@ -97,23 +82,7 @@ returns-then-place-size c = let w = (goal.at.returns-then-place-size c).After-wr
       program = front z;
       side = λ ws S.
           over-limit (length x.store.now) x.place.limit ws x.v x.first.now x.second.now (output' w) x.one.refusal x.two.refusal (atom z S) (same-output w)
-          c.in-Text.size c.in-Text.is (w.write.ensures.written ws (program z S)) c.if-place-size.true;
-      taken = tt;
-    }
-
-pub returns-else-number-eq58 : goal.returns-else-number-eq58
-returns-else-number-eq58 c = let w = (goal.at.returns-else-number-eq58 c).After-write in
-    let z = (goal.at.returns-else-number-eq58 c).After-zero_all in
-    let f = c.first_refusal in
-    let x = z.args in record {
-      empty = f.ensures.empty ∙ ap (λ (n : ℕ). replicate n (pos 0)) (same_store w);
-      program = f.ensures.program ∙ front z;
-      side = λ ws S.
-          not-halves (length x.store.now) x.place.limit ws x.v x.first.now x.second.now (output' w) x.one.refusal x.two.refusal (atom z S) (same-output w)
-          c.in-Refused.number c.in-Refused.is c.if-number-eq58.false (w.write.ensures.written ws (program z S))
-          ∙ ap fails
-          (ap (λ (n : ℕ). cond (is_accepted n (demanding_as_written ws (pos x.v)) x.first.now) x.two.refusal x.one.refusal) (sym (same_store w))
-          ∙ sym (f.ensures.number ws (standing z S)));
+          c.in-Ok.size c.in-Ok.is (w.write.ensures.written ws (program z S)) c.if-place-size.true;
       taken = tt;
     }
 
@@ -126,11 +95,11 @@ returns-else-place-size c = let w = (goal.at.returns-else-place-size c).After-wr
       program = front z;
       side = λ ws S.
           text-pending (length x.store.now) x.place.limit ws x.v x.first.now x.second.now (output' w) x.one.refusal x.two.refusal (atom z S) (same-output w)
-          c.in-Text.size c.in-Text.is (w.write.ensures.written ws (program z S)) (omega (arith, c.if-place-size.false))
-          ∙ ap (λ (p : Pending). side_of (length x.store.now) ws (output' w) (Text p)) (sym c.both.ensures);
-      taken = subst (λ (p : Pending). Adds x.one x.two (Text p)) (sym c.both.ensures) (
+          c.in-Ok.size c.in-Ok.is (w.write.ensures.written ws (program z S)) (omega (arith, c.if-place-size.false))
+          ∙ ap (λ (p : Pending). side_of (length x.store.now) ws (output' w) (Ok p)) (sym c.both.ensures);
+      taken = subst (λ (p : Pending). Adds x.one x.two (Ok p)) (sym c.both.ensures) (
         text-size (length x.store.now) x.place.limit q.0 x.v x.first.now x.second.now (output' w) x.one.refusal x.two.refusal (atom z q.1) (same-output w)
-            c.in-Text.size c.in-Text.is (w.write.ensures.written q.0 (program z q.1)),
+            c.in-Ok.size c.in-Ok.is (w.write.ensures.written q.0 (program z q.1)),
         refl,
       );
     }

@@ -23,5 +23,5 @@ pub returns : goal.returns
 returns c =
     let a = (goal.at.returns c).After-copy.args in
     let z = c.zero_all in
-    let k = put-behind a.used a.table.now (omega (arith, (goal.at.returns c).After-copy.requires)) (row (goal.at.returns c).After-copy) c.copy.new.destination (tail-filled a.used a.table.now (pos 0) z.new.t (omega (arith, (goal.at.returns c).After-copy.requires)) z.ensures) c.copy.ensures in
+    let k = put-behind a.used a.table.now (omega (arith, (goal.at.returns c).After-copy.requires)) (row (goal.at.returns c).After-copy) c.copy.new.destination (tail-filled a.used a.table.now (pos 0) z.new.items (omega (arith, (goal.at.returns c).After-copy.requires)) z.ensures) c.copy.ensures in
     rw (row_is (goal.at.returns c).After-copy) at k

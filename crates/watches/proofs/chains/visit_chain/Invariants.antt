@@ -1,12 +1,9 @@
-use mathlib.Core.Path.{◌≡◌}
 use Prim.Native.Nat.{◌≤◌}
+use Rattle.std.specs.Prelude.{IfSome}
 use Rattle.watches.specs.Small.{largest_cell}
-use lib.ListN.{length}
 use Rattle.words.specs.Limits.{entries}
 use Rattle.watches.proofs.chains.visit_chain.Given as goal
 
-abbrev pub invariant-loop-fuel : goal.invariant-loop-fuel
-invariant-loop-fuel l = (l.n ≤ entries) × (l.last ≤ largest_cell) × (l.node ≤ largest_cell) × (length l.cells ≡ length l.initial.cells)
-
-abbrev pub decreases-loop-fuel : goal.decreases-loop-fuel
-decreases-loop-fuel l = l.fuel
+abbrev pub invariant-loop : goal.invariant-loop
+invariant-loop l =
+    (l.n ≤ entries) × IfSome l.last (λ node. node ≤ largest_cell) × IfSome l.node (λ node. node ≤ largest_cell)

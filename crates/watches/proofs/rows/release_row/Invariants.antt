@@ -1,11 +1,7 @@
-use mathlib.Core.Path.{◌≡◌}
 use Prim.Native.Nat.{◌≤◌}
-use lib.ListN.{length}
+use Rattle.std.specs.Prelude.{IfSome}
 use Rattle.watches.specs.Small.{largest_cell}
 use Rattle.watches.proofs.rows.release_row.Given as goal
 
-abbrev pub invariant-loop-fuel : goal.invariant-loop-fuel
-invariant-loop-fuel l = (l.piece ≤ largest_cell) × (l.held ≤ 63) × (l.width ≤ 63) × (length l.cells ≡ length l.initial.cells)
-
-abbrev pub decreases-loop-fuel : goal.decreases-loop-fuel
-decreases-loop-fuel l = l.fuel
+abbrev pub invariant-loop : goal.invariant-loop
+invariant-loop l = IfSome l.next (λ piece. piece ≤ largest_cell) × (l.held ≤ 63)

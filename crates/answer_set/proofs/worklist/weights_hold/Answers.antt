@@ -1,5 +1,0 @@
-use Rattle.aspif.proofs.Cursors.{shape_of}
-use Rattle.answer_set.proofs.worklist.weights_hold.Goals as goal
-
-pub body_of-requires : goal.body_of-requires
-body_of-requires c = shape_of _ c.requires.words_value

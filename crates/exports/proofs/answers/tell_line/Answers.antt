@@ -1,8 +1,0 @@
--- `exports::answers::tell_line` meets its contract, case by case.
--- Assumes nothing.
-use Rattle.exports.specs.Codes.{line_code, line_numbers}
-use Rattle.exports.proofs.Telling.{telling}
-use Rattle.exports.proofs.answers.tell_line.Goals as goal
-
-pub returns-in-Line : goal.returns-in-Line
-returns-in-Line c = telling line_code line_numbers c.in-Line.is c.byte_of.ensures c.put_two.ensures
