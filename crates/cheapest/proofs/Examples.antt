@@ -43,4 +43,5 @@ worked = record {
   just-dear = refl;
   too-dear-none = refl;
   refused = refl;
+  numbers = refl;
 }

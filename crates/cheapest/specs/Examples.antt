@@ -1,12 +1,13 @@
 -- What the service answers on worked cases, by its definition; proofs/Examples.antt computes them.
 -- Assumes nothing.
-use Rattle.std.specs.Prelude.{◌≡◌, Ok, Err, List, [], ◌∷◌, ℕ, ℤ, pos, negsuc, replicate}
+use Rattle.std.specs.Prelude.{◌≡◌, Ok, Err, List, [], ◌∷◌, map, ℕ, ℤ, pos, negsuc, replicate}
 use Rattle.text.specs.Strings.{bytes, lines}
 use Rattle.checker.specs.Check.{check}
 use Rattle.cheapest.specs.Service.{CheapestAnswer, cheapest}
 use Rattle.aspif.specs.declared.Refusal.TheVariants.{Program, Service}
 use Rattle.aspif.specs.declared.ProgramFault.TheVariants.{TableFull}
 use Rattle.cheapest.specs.declared.CheapestFault.TheVariants.{WrongSet, WrongCosts, NotCertified}
+use Rattle.cheapest.specs.Numbers.{number_of}
 
 -- program B, a choice over 1 and 2 of which one must hold: the answer sets are {1}, {2} and {1, 2}
 abbrev pub text_b : List ℕ
@@ -69,3 +70,5 @@ pub record Worked : Type 0 where
   -- nothing stays of what is refused
   pub refused : cheapest 12 3 text_b (1 ∷ []) (pos 1 ∷ []) proof_q
       ≡ record { answer = Err (Service WrongCosts); table = replicate 12 (pos 0); store = pos 0 ∷ pos 0 ∷ pos 0 ∷ [] }
+  -- by which numbers these refusals are told
+  pub numbers : map number_of (WrongSet ∷ WrongCosts ∷ NotCertified ∷ []) ≡ 42 ∷ 62 ∷ 63 ∷ []

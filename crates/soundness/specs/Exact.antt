@@ -1,5 +1,5 @@
 -- Which texts the reader takes, exactly, in the words of a writer: document 01, 'Program text', with Changes 3 and 6. Which number a text
--- gets that is refused is said by specs/Reading.antt of `aspif` alone. proofs/Exact.antt proves the claim.
+-- gets that is refused is said by specs/Reading.antt and Numbers.antt of `aspif` alone. proofs/Exact.antt proves the claim.
 -- Assumes nothing.
 use Rattle.std.specs.Prelude.{◌≡◌, ◌↔◌, List, [], ◌∷◌, ℕ, ◌≤◌, ℤ, pos, length, Result, Ok}
 use Rattle.words.specs.Limits.{largest, longest, most_literals, most_rules}

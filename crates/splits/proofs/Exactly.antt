@@ -52,6 +52,7 @@ module _ (t s o : ℕ) (ws : List InputRule) (v : ℕ) (first second output' : L
     merged = (λ q. absurd (apart q.1 is), λ q. absurd (none q.0));
     text = λ n q. absurd (apart q is);
     full = (λ q. absurd (not (let i : ◌≡◌ {A = MergeAnswer} (Err (Service k)) (Err (Service StoreFull)) = sym is ∙ q in cc)), λ q. absurd (none q.0));
+    number = refl;
   }
 
   module _ (j : Joins s o ws v first second) (l : Is judgement) where
@@ -61,6 +62,7 @@ module _ (t s o : ℕ) (ws : List InputRule) (v : ℕ) (first second output' : L
       text = λ n q. let i : ◌≡◌ {A = MergeAnswer} (Ok (length (text_of ts))) (Ok n) = sym is ∙ q in
           let e : length (text_of ts) ≡ n = cc in (sym e, l.1 ∙ (w.1 ∙ ap (λ (m : ℕ). text_of ts ++ replicate (o - m) 0) e));
       full = (λ q. absurd (apart is q), λ q. absurd (never q.1));
+      number = refl;
     }
       where
         w : (judgement.answer ≡ Ok (length (text_of ts))) × (judgement.output ≡ text_of ts ++ replicate (o - length (text_of ts)) 0)
@@ -74,6 +76,7 @@ module _ (t s o : ℕ) (ws : List InputRule) (v : ℕ) (first second output' : L
       merged = (λ q. absurd (apart q.1 is), λ q. absurd (q.1 past));
       text = λ m q. absurd (apart q is);
       full = (λ q. (j, past), λ q. is);
+      number = refl;
     }
       where
         is : r ≡ Err (Service StoreFull)

@@ -45,4 +45,5 @@ worked = record {
   exchanged = refl;
   open-half = refl;
   nothing = refl;
+  numbers = refl;
 }

@@ -19,6 +19,7 @@ use Rattle.merging.specs.Claims.{Accepted}
 use Rattle.drupe.specs.declared.ProofFault.TheVariants as Fault
 use Rattle.splits.specs.Service.{are_halves, merged_steps, is_writable, MergedHalves, MergeAnswer}
 use Rattle.splits.specs.declared.MergeFault.TheVariants.{StoreFull}
+use Rattle.splits.specs.Numbers.{number_of}
 use Rattle.aspif.specs.declared.Refusal.TheVariants.{Service}
 
 -- "live words past the store": after the first n of the steps there are more live words than the store has
@@ -66,6 +67,7 @@ pub record Exactly (s o : ℕ) (ws : List InputRule) (v : ℕ) (first second out
       × (output' ≡ text_of (merged_steps ws v first second) ++ replicate (o - n) 0)
   -- "live words past the store 59", and nothing else
   pub full : (r ≡ Err (Service StoreFull)) ↔ (Joins s o ws v first second × PastStore s ws (merged_steps ws v first second))
+  pub number : number_of StoreFull ≡ 59
 
 -- the same by the contract, whatever the service is lent
 abbrev pub MergedExactly : Type 0

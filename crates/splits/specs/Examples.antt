@@ -1,12 +1,13 @@
 -- What the service answers on worked cases, by its definition; proofs/Examples.antt computes them, and takes `past` and `within` from
 -- `MergedExactly`. The texts are those of merging/specs/Examples.antt.
 -- Assumes nothing.
-use Rattle.std.specs.Prelude.{◌≡◌, List, [], ◌∷◌, ◌++◌, ℕ, ℤ, pos, neg_ℤ, replicate, Ok, Err}
+use Rattle.std.specs.Prelude.{◌≡◌, List, [], ◌∷◌, ◌++◌, map, ℕ, ℤ, pos, neg_ℤ, replicate, Ok, Err}
 use Rattle.text.specs.Strings.{lines}
 use Rattle.merging.specs.Examples.{rules, program_a, later_first_a, later_a, second_a}
 use Rattle.splits.specs.Service.{merged_steps, merge, MergeAnswer}
 use Rattle.splits.specs.Claims.{PastStore}
 use Rattle.splits.specs.declared.MergeFault.TheVariants.{NotAccepted, NotWritable, StoreFull}
+use Rattle.splits.specs.Numbers.{number_of}
 use Rattle.aspif.specs.declared.Refusal.TheVariants.{Program, Service}
 use Rattle.aspif.specs.declared.ProgramFault.TheVariants.{TableFull}
 
@@ -60,3 +61,5 @@ pub record Worked : Type 0 where
   -- nothing stays of what is refused
   pub nothing : merge 30 123 4 text_a 1 half_a other_a
       ≡ record { answer = Err (Service NotWritable); table = replicate 30 (pos 0); store = replicate 123 (pos 0); output = 0 ∷ 0 ∷ 0 ∷ 0 ∷ [] }
+  -- by which numbers these refusals are told
+  pub numbers : map number_of (NotAccepted ∷ NotWritable ∷ StoreFull ∷ []) ≡ 57 ∷ 58 ∷ 59 ∷ []

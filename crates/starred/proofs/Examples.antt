@@ -28,7 +28,7 @@ use Rattle.nogoods.specs.Store.{live, closed, killed}
 use Rattle.checker.specs.Report.{lent, printed}
 use Rattle.runs.specs.Course.{course_within}
 use Rattle.checker.specs.Check.{check_within}
-use Rattle.starred.specs.Examples.{SetPasses, SetFails, Starred, Source000, WeightBodies, BrokenSecond, LoopsOnly, OriginWords, DeadWords, LongLines}
+use Rattle.starred.specs.Examples.{SetPasses, SetFails, Starred, Source000, WeightBodies, BrokenSecond, LoopsOnly, OriginWords, DeadWords, LongLines, Numbers}
 
 -- Which sets pass: the programs as they are read
 
@@ -148,3 +148,6 @@ dead-words = record {
 pub long-lines : LongLines
 unfolding decimal decimals
 long-lines = record { open_line = refl; program_line = refl }
+
+pub numbers : Numbers
+numbers = record { programs = refl; proofs = refl; sets = refl }

@@ -1,7 +1,7 @@
 -- The starred examples 1 to 8 of document 01 and its 'Others', jointly in one statement over the definitions;
 -- proofs/Examples.antt proves it. Each field quotes its example.
 -- Assumes nothing.
-use Rattle.std.specs.Prelude.{◌≡◌, List, [], ◌∷◌, ◌++◌, ℕ, ◌-◌, ℤ, pos, neg_ℤ, length, replicate, Result, Ok}
+use Rattle.std.specs.Prelude.{◌≡◌, List, [], ◌∷◌, ◌++◌, ℕ, ◌-◌, ℤ, pos, neg_ℤ, length, map, replicate, Result, Ok}
 use Prim.Native.String.{String}
 use Rattle.words.specs.Limits.{entries}
 use Rattle.aspif.specs.Rules.{InputRule, expand, program_words}
@@ -12,6 +12,7 @@ use Rattle.answer_set.specs.Claims.{Listed, LowestRule}
 use Rattle.answer_set.specs.declared.SetAnswer.{SetAnswer}
 use Rattle.answer_set.specs.declared.SetAnswer.TheVariants.{Yes, Differs, Broken}
 use Rattle.answer_set.specs.declared.SetFault.{SetFault}
+use Rattle.answer_set.specs.declared.SetFault.TheVariants.{Unreadable, NotAscending, WrongMarks}
 use Rattle.checker.specs.Check.{check}
 use Rattle.checker.specs.Report.{verdict_line, lent, printed}
 use Rattle.text.specs.Strings.{lines}
@@ -19,8 +20,13 @@ use Rattle.checker.specs.declared.Verdict.{Verdict}
 use Rattle.checker.specs.declared.Verdict.TheVariants.{Inconsistent, Open, RefusedProgram, RefusedProof}
 use Rattle.aspif.specs.declared.ProgramFault.TheVariants.{Malformed, TooLarge, TableFull, WeightOutOfRange, TooManyWeights}
 use Rattle.aspif.specs.declared.ProgramFault.{ProgramFault}
+use Rattle.aspif.specs.declared.ProgramFault.TheVariants as Program
+use Rattle.aspif.specs.Numbers.{number_of}
 use Rattle.drupe.specs.declared.ProofFault.TheVariants.{KnownName, NoUnnamedBody, NoCompletion, NoSupport, NoConflict, StoreFull, NoLoop}
 use Rattle.drupe.specs.declared.ProofFault.{ProofFault}
+use Rattle.drupe.specs.declared.ProofFault.TheVariants as Proof
+use Rattle.drupe.specs.Numbers as ProofNumber
+use Rattle.answer_set.specs.Numbers as SetNumber
 
 -- Texts
 
@@ -298,3 +304,20 @@ pub record DeadWords : Type 0 where
 pub record LongLines : Type 0 where
   pub open_line : verdict_line (undecided 8191 1 0 0) ≡ lines ("open 8191 1 0 0" ∷ [])
   pub program_line : verdict_line (refused_program TableFull 1025) ≡ lines ("refused program 10 1025" ∷ [])
+
+-- By which number each refusal is told, in the order of the faults' names: a name above stands for its number here.
+pub record Numbers : Type 0 where
+  -- of a program text, 1 to 11, and 54 and 55 of Change 3
+  pub programs : map number_of
+      (Program.TooLong ∷ Program.NoHeader ∷ Program.Malformed ∷ Program.TooLarge ∷ Program.WrongKind ∷ Program.WrongCount
+      ∷ Program.UnsuitedHeads ∷ Program.WrongLiterals ∷ Program.TooManyRules ∷ Program.TableFull ∷ Program.TextAfterEnd
+      ∷ Program.WeightOutOfRange ∷ Program.TooManyWeights ∷ [])
+      ≡ 1 ∷ 2 ∷ 3 ∷ 4 ∷ 5 ∷ 6 ∷ 7 ∷ 8 ∷ 9 ∷ 10 ∷ 11 ∷ 54 ∷ 55 ∷ []
+  -- of a proof, 21 to 34, and 56 of Change 5
+  pub proofs : map ProofNumber.number_of
+      (Proof.TooLong ∷ Proof.Malformed ∷ Proof.OutOfRange ∷ Proof.WrongSigns ∷ Proof.RepeatedVariable
+      ∷ Proof.UnknownVariable ∷ Proof.KnownName ∷ Proof.NoUnnamedBody ∷ Proof.NoCompletion ∷ Proof.NoSupport
+      ∷ Proof.NoAtoms ∷ Proof.UnnamedBody ∷ Proof.NoConflict ∷ Proof.StoreFull ∷ Proof.NoLoop ∷ [])
+      ≡ 21 ∷ 22 ∷ 23 ∷ 24 ∷ 25 ∷ 26 ∷ 27 ∷ 28 ∷ 29 ∷ 30 ∷ 31 ∷ 32 ∷ 33 ∷ 34 ∷ 56 ∷ []
+  -- of the set test, 41 to 43
+  pub sets : map SetNumber.number_of (Unreadable ∷ NotAscending ∷ WrongMarks ∷ []) ≡ 41 ∷ 42 ∷ 43 ∷ []

@@ -5,16 +5,42 @@ use mathlib.Core.Bool.{Bool, true, false, cond}
 use mathlib.Core.List.{List}
 use Prim.Native.Nat.{ℕ, ◌+◌, ◌<◌, ◌≤◌}
 use native.Mathlib.Numerals.{add-one}
-use lib.Dec.{ltb}
+use lib.Dec.{eqb, ltb, leb}
 use lib.IntN.{ℤ}
 use lib.ListN.{length, get_or, drop_of_length-le}
 use lib.Seq.{drop-cons}
 use borrow.Author.Tests.{ltb-true, ltb-false, lt-ltb, le-ltb}
 use Rattle.text.specs.Bytes.{class_of}
+use Rattle.text.specs.Classes.{class_at}
 use Rattle.text.specs.Scan.{State, Sign, Zero, Digits, Action, Go, more_of, action_of, scan, turn, class_from, scan_from, acted, ending, beginning, after_digits, after_sign}
+use Rattle.text.specs.declared.Letter.{Letter}
+use Rattle.text.specs.declared.Letter.TheVariants.{Addition, Body, Completion, Deletion, Extension, Loop, Support}
 use Rattle.text.specs.declared.Class.{Class}
 use Rattle.text.specs.declared.Class.TheVariants.{Newline, Space, Minus, Digit, Step, Other}
 use Rattle.text.specs.declared.Seen.{Seen}
+
+-- Classes by their numbers
+
+agree : {B : Type 0} (f g : Class → B) (t : Bool) {a b : Class} → (t ≡ true → f a ≡ g a) → f b ≡ g b → f (cond t a b) ≡ g (cond t a b)
+agree f g true p q = p refl
+agree f g false p q = q
+
+-- two functions of a class agree at a number's class, where they agree at every class that the number may have
+pub each : {B : Type 0} (f g : Class → B) (x : ℕ) → (leb x 9 ≡ true → f (Digit x) ≡ g (Digit x)) → (eqb x 10 ≡ true → f Newline ≡ g Newline)
+    → (eqb x 11 ≡ true → f Space ≡ g Space) → (eqb x 12 ≡ true → f Minus ≡ g Minus) → ((y : Letter) → f (Step y) ≡ g (Step y)) → f Other ≡ g Other
+    → f (class_at x) ≡ g (class_at x)
+each f g x d n s m l o =
+    agree f g (leb x 9) d
+    (agree f g (eqb x 10) n
+    (agree f g (eqb x 11) s
+    (agree f g (eqb x 12) m
+    (agree f g (eqb x 13) (λ e. l Addition)
+    (agree f g (eqb x 14) (λ e. l Body)
+    (agree f g (eqb x 15) (λ e. l Completion)
+    (agree f g (eqb x 16) (λ e. l Deletion)
+    (agree f g (eqb x 17) (λ e. l Extension)
+    (agree f g (eqb x 18) (λ e. l Loop)
+    (agree f g (eqb x 19) (λ e. l Support) o))))))))))
 
 -- Scanning
 

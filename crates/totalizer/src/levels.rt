@@ -72,8 +72,10 @@ pub fn copy_sums(destination: &mut [usize], source: &[usize])
     ensures { destination.new ≡ source.now
         ++ drop (length source.now) destination.old }
 {
-    let n = source.len();
-    destination[..n].copy_from_slice(source);
+    // No `copy_from_slice`: with it the archive for C would need `memmove` from outside.
+    for i in 0..source.len() {
+        destination[i] = source[i];
+    }
 }
 
 // The sums, of which there are n, with a literal of that weight more.

@@ -55,4 +55,5 @@ worked = record {
   first-59 = refl;
   second-57 = refl;
   first-57 = refl;
+  number = refl;
 }

@@ -15,6 +15,7 @@ use Rattle.shapes.specs.Tree.{Shape, end, split, found, tree_of, most_splits}
 use Rattle.trees.specs.Service.{merge_tree}
 use Rattle.trees.specs.Claims.{tree_text, FitsAll, tree_steps}
 use Rattle.splits.specs.declared.MergeFault.TheVariants.{NotAccepted, NotWritable, StoreFull, NoTree}
+use Rattle.splits.specs.Numbers.{number_of}
 use Rattle.aspif.specs.declared.Refusal.TheVariants.{Service}
 
 -- program C of the change: a choice over 1 to 7, and constraints that demand 7 and forbid it
@@ -84,3 +85,5 @@ pub record Worked : Type 0 where
   pub second-57 : answer_c 200 400 (1 ∷ 2 ∷ 0 ∷ 0 ∷ 0 ∷ []) (end_c ∷ end_c ∷ bad_c ∷ []) ≡ Err (Service NotAccepted)
   -- and its bad end before a 58 inside the other side
   pub first-57 : answer_c 200 40 (1 ∷ 0 ∷ 2 ∷ 0 ∷ 0 ∷ []) (bad_c ∷ end_c ∷ end_c ∷ []) ≡ Err (Service NotAccepted)
+  -- by which number what is no tree is told; the others are in splits/specs/Examples.antt
+  pub number : number_of NoTree ≡ 64
